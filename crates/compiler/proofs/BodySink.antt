@@ -15,7 +15,7 @@ use Rattle.job.proofs.NodeRows.{rows_append, rows-length}
 use Rattle.entries.specs.declared.scope.Scope.{Scope}
 use Rattle.compiler.specs.ExpressionCompiled.{reading, Accepted, compiled, stored}
 use Rattle.compiler.specs.Body.{sink_of, Sunk, sunk, BodyAccepted, compiled_with_sink, stored_body}
-use Rattle.compiler.specs.declared.body.Sink.{Sink}
+use Rattle.compiler.specs.declared.body.SinkKind.{SinkKind}
 use Rattle.compiler.specs.declared.expression.Compiled.{Compiled}
 use Rattle.compiler.proofs.ExpressionTaking.{accept, same}
 
@@ -39,7 +39,7 @@ module _ {ks os : List ℕ} {s : Scope} {at n sink : ℕ} {scope : List ℕ} (b 
       let l = b.below in
       accept 24 ks os s at n scope taken.it b.means taken.read (omega arith)
 
-  pub body-done : (c : Compiled) (toward : Sink) (d d1 d2 : List ℕ) → c ≡ compiled (reading 24 ks os scope at) n
+  pub body-done : (c : Compiled) (toward : SinkKind) (d d1 d2 : List ℕ) → c ≡ compiled (reading 24 ks os scope at) n
       → d1 ≡ stored (reading 24 ks os scope at) n sink d → d2 ≡ sets d1 (head_words + 12 * sink) (node_words (sink_of toward))
       → (◌≡◌ {A = Compiled} (record { at = c.at; node = sink + 1; root = c.root }) (compiled_with_sink (reading 24 ks os scope at) n))
       × (d2 ≡ stored_body (reading 24 ks os scope at) toward n d)

@@ -14,17 +14,17 @@ use Rattle.job.specs.Syntax.{Param, Join, Exp, stop, site, call, join, scope_lef
 use Rattle.job.specs.Read.{Got, Read, got, ◌>>=◌, gives, need, entry_at, read_param_list, read_call, read_join, read_exp}
 use Rattle.job.proofs.Test.{never, ltb-lt}
 use Rattle.job.proofs.Position.{entries_at, entries-end, bind-got, refused-got, reread, test-holds}
-use Rattle.entries.specs.Kind.{kind_named, join_meant, join_of}
-use Rattle.entries.specs.declared.kind.JoinKind.{JoinKind}
-use Rattle.entries.specs.declared.kind.JoinKind.TheVariants as joins
-use Rattle.entries.specs.declared.kind.Kind.{Kind}
-use Rattle.entries.specs.declared.kind.Kind.TheVariants as kinds
+use Rattle.entries.specs.NamedKind.{kind_named, join_meant, join_of}
+use Rattle.entries.specs.declared.table_kind.JoinKind.{JoinKind}
+use Rattle.entries.specs.declared.table_kind.JoinKind.TheVariants as joins
+use Rattle.entries.specs.declared.table_kind.TableKind.{TableKind}
+use Rattle.entries.specs.declared.table_kind.TableKind.TheVariants as kinds
 use Rattle.std.specs.Prelude.{Ok}
 use Rattle.entries.proofs.ExpressionOpened.{read_kind, exp-opened}
 
 module _ (side : List ℕ → ℕ → List Entry → Read Exp) (scope : List ℕ) (o e : ℕ) (l : List Entry) (g : Got Exp) where
   -- by kind and operand; e is the next entry, l what stands from there on
-  pub data Head : Kind → Type 0 where
+  pub data Head : TableKind → Type 0 where
     halts : gives stop e l ≡ got g → Head kinds.Stop
     names : read_call (site (low o)) (high o) scope e l ≡ got g → Head kinds.Site
     calls : read_call (call (low o)) (high o) scope e l ≡ got g → Head kinds.Call
@@ -33,7 +33,7 @@ module _ (side : List ℕ → ℕ → List Entry → Read Exp) (scope : List ℕ
 
   -- its kind, and what it is by that
   pub record Kinded (n : EntryKind) : Type 0 where
-    pub kind : Kind
+    pub kind : TableKind
     pub named : kind_named n ≡ Ok kind
     pub head : Head kind
 
@@ -101,14 +101,14 @@ headed (suc left) ks os scope at g r = go (dec_lt at (length ks))
     go (no f) = none_here (suc left) scope at g (reread (read_exp (suc left)) refl refl (entries-end ks os at (omega arith)) r)
 
 module _ {side : List ℕ → ℕ → List Entry → Read Exp} {scope : List ℕ} {o e : ℕ} {l : List Entry} {g : Got Exp} where
-  pub stops : {k : Kind} → Head side scope o e l g k → k ≡ kinds.Stop → (g.value ≡ stop) × (g.next ≡ e)
+  pub stops : {k : TableKind} → Head side scope o e l g k → k ≡ kinds.Stop → (g.value ≡ stop) × (g.next ≡ e)
   stops (halts r) z = (cc, (cc))
   stops (names r) z = never cc
   stops (calls r) z = never cc
   stops (joins_by room r) z = never cc
 
   -- no other kind is an expression's
-  pub no-other : {k : Kind} → Head side scope o e l g k → (i : Kind) → k ≡ i
+  pub no-other : {k : TableKind} → Head side scope o e l g k → (i : TableKind) → k ≡ i
       → (i ≡ kinds.Definition) ⊎ ((i ≡ kinds.Variable) ⊎ (i ≡ kinds.Constant)) → ⊥
   no-other (halts r) i z (inl y) = never cc
   no-other (halts r) i z (inr (inl y)) = never cc
@@ -123,12 +123,12 @@ module _ {side : List ℕ → ℕ → List Entry → Read Exp} {scope : List ℕ
   no-other (joins_by room r) i z (inr (inl y)) = never cc
   no-other (joins_by room r) i z (inr (inr y)) = never cc
 
-pub called-kind : {k i : Kind} → k ≡ i → (i ≡ kinds.Site) ⊎ (i ≡ kinds.Call) → (k ≡ kinds.Site) ⊎ (k ≡ kinds.Call)
+pub called-kind : {k i : TableKind} → k ≡ i → (i ≡ kinds.Site) ⊎ (i ≡ kinds.Call) → (k ≡ kinds.Site) ⊎ (k ≡ kinds.Call)
 called-kind e (inl f) = inl (e ∙ f)
 called-kind e (inr f) = inr (e ∙ f)
 
 -- a call: its parameters
-pub record Called (scope : List ℕ) (o e : ℕ) (l : List Entry) (g : Got Exp) (k : Kind) : Type 0 where
+pub record Called (scope : List ℕ) (o e : ℕ) (l : List Entry) (g : Got Exp) (k : TableKind) : Type 0 where
   pub params : Got (List Param)
   pub read : read_param_list (high o) scope e l ≡ got params
   pub next : g.next ≡ params.next
@@ -145,7 +145,7 @@ pub record Joined (side : List ℕ → ℕ → List Entry → Read Exp) (scope :
   pub next : g.next ≡ right.next
 
 module _ {side : List ℕ → ℕ → List Entry → Read Exp} {scope : List ℕ} {o e : ℕ} {l : List Entry} {g : Got Exp} where
-  pub called : {k : Kind} → Head side scope o e l g k → (k ≡ kinds.Site) ⊎ (k ≡ kinds.Call) → Called scope o e l g k
+  pub called : {k : TableKind} → Head side scope o e l g k → (k ≡ kinds.Site) ⊎ (k ≡ kinds.Call) → Called scope o e l g k
   unfolding read_call
   called (halts r) (inl z) = never cc
   called (halts r) (inr z) = never cc
@@ -158,7 +158,7 @@ module _ {side : List ℕ → ℕ → List Entry → Read Exp} {scope : List ℕ
   called (joins_by room r) (inl z) = never cc
   called (joins_by room r) (inr z) = never cc
 
-  pub head-room : {k : Kind} (j : JoinKind) → Head side scope o e l g k → k ≡ kinds.Join j → is_binder (join_meant j) ≡ true
+  pub head-room : {k : TableKind} (j : JoinKind) → Head side scope o e l g k → k ≡ kinds.Join j → is_binder (join_meant j) ≡ true
       → length scope < 8
   head-room j (halts r) z b = never cc
   head-room j (names r) z b = never cc
@@ -166,7 +166,7 @@ module _ {side : List ℕ → ℕ → List Entry → Read Exp} {scope : List ℕ
   head-room j (joins_by {j = i} room r) z b =
       let e : i ≡ j = cc in room (ap (λ j. is_binder (join_meant j)) e ∙ b)
 
-  pub joined : {k : Kind} (j : JoinKind) → Head side scope o e l g k → k ≡ kinds.Join j → Joined side scope e l g (join_of j (length scope))
+  pub joined : {k : TableKind} (j : JoinKind) → Head side scope o e l g k → k ≡ kinds.Join j → Joined side scope e l g (join_of j (length scope))
   unfolding read_join
   joined j (halts r) z = never cc
   joined j (names r) z = never cc

@@ -16,9 +16,9 @@ use Rattle.job.proofs.Stores.{sets-append, sets-swap}
 use Rattle.job.proofs.NodeRows.{own-rows-length, rows_append, rows-length}
 use Rattle.job.proofs.Position.{exp-from, reread}
 use Rattle.job.proofs.Size.{own-some, size-some}
-use Rattle.entries.specs.Kind.{join_of}
-use Rattle.entries.specs.declared.kind.JoinKind.{JoinKind}
-use Rattle.entries.specs.declared.kind.Kind.TheVariants as kinds
+use Rattle.entries.specs.NamedKind.{join_of}
+use Rattle.entries.specs.declared.table_kind.JoinKind.{JoinKind}
+use Rattle.entries.specs.declared.table_kind.TableKind.TheVariants as kinds
 use Rattle.compiler.specs.PlanSides.{PlansLeft, PlansRight}
 use Rattle.compiler.specs.JoinRoot.{join_root}
 use Rattle.compiler.specs.ExpressionCompiled.{reading, Accepted, compiled, stored}

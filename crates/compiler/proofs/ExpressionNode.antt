@@ -14,9 +14,9 @@ use Rattle.job.specs.Construct.{node_count, root, nodes_of}
 use Rattle.job.specs.Words.{head_words, param_words, node_words, rows_of_nodes}
 use Rattle.job.proofs.Entry.{kind_number, kind-number}
 use Rattle.job.proofs.Position.{operand_small}
-use Rattle.entries.specs.Kind.{kind_meant}
-use Rattle.entries.specs.declared.kind.Kind.{Kind}
-use Rattle.entries.specs.declared.kind.Kind.TheVariants as kinds
+use Rattle.entries.specs.NamedKind.{kind_meant}
+use Rattle.entries.specs.declared.table_kind.TableKind.{TableKind}
+use Rattle.entries.specs.declared.table_kind.TableKind.TheVariants as kinds
 use Rattle.entries.proofs.KindNames.{named-meant}
 use Rattle.std.specs.Prelude.{Ok}
 use Rattle.compiler.specs.CallNodeWords.{call_node_words}
@@ -86,7 +86,7 @@ module _ {left : ℕ} {ks os scope : List ℕ} {at n : ℕ} (t : Taken left ks o
             let z : at + 1 + high o ≡ suc at + high (operand_at os at) = ap (λ m. at + 1 + high m) eo ∙ omega arith in
             omega arith
 
-        number : (k : Kind) → t.kind ≡ k → get_or ks at 0 ≡ kind_number (kind_meant k) (get_or ks at 0)
+        number : (k : TableKind) → t.kind ≡ k → get_or ks at 0 ≡ kind_number (kind_meant k) (get_or ks at 0)
         number k e = kind-number (get_or ks at 0) (kind_meant k) (named-meant (kind_of (get_or ks at 0)) k (t.named ∙ ap Ok e))
 
         go : ((t.kind ≡ kinds.Site) × (t.it.value ≡ site (low (operand_at os at)) its.params.value))

@@ -10,11 +10,11 @@ use Rattle.job.specs.Syntax.{Exp}
 use Rattle.job.specs.Construct.{node_count}
 use Rattle.job.specs.Read.{Got, Read, got, read_exp, refused}
 use Rattle.job.proofs.Size.{size-some}
-use Rattle.entries.specs.Kind.{kind_named, join_meant}
+use Rattle.entries.specs.NamedKind.{kind_named, join_meant}
 use Rattle.entries.specs.Refusal.{found_at}
-use Rattle.entries.specs.declared.kind.JoinKind.{JoinKind}
-use Rattle.entries.specs.declared.kind.Kind.{Kind}
-use Rattle.entries.specs.declared.kind.Kind.TheVariants as kinds
+use Rattle.entries.specs.declared.table_kind.JoinKind.{JoinKind}
+use Rattle.entries.specs.declared.table_kind.TableKind.{TableKind}
+use Rattle.entries.specs.declared.table_kind.TableKind.TheVariants as kinds
 use Rattle.entries.specs.declared.refusal.Refused.{Refused}
 use Rattle.entries.proofs.RefusalNumbers.{same-value}
 use Rattle.std.specs.Prelude.{Result, Ok, IsOk}
@@ -53,7 +53,7 @@ pub record Taken (left : ℕ) (ks os scope : List ℕ) (at n : ℕ) : Type 0 whe
   pub it : Got Exp
   pub read : reading left ks os scope at ≡ got it
   pub fits : n + node_count it.value ≤ 1022
-  pub kind : Kind
+  pub kind : TableKind
   pub named : kind_named (kind_of (get_or ks at 0)) ≡ Ok kind
   pub head : Head (read_exp (left - 1)) scope (operand_at os at) (suc at) (drop (suc at) (entries ks os)) it kind
 
@@ -73,12 +73,12 @@ taken {left} {ks} {os} {s} {at} {n} {scope} acc =
     }
 
 -- its first entry's kind is the one that is found there
-pub has-kind : {left : ℕ} {ks os scope : List ℕ} {at n : ℕ} (t : Taken left ks os scope at n) (r : Result Kind Refused)
+pub has-kind : {left : ℕ} {ks os scope : List ℕ} {at n : ℕ} (t : Taken left ks os scope at n) (r : Result TableKind Refused)
     → r ≡ found_at at (kind_named (kind_of (get_or ks at 0))) → r ≡ Ok t.kind
 unfolding found_at
 has-kind {at = at} t r e = e ∙ ap (λ k. found_at at k) t.named
 
-pub same-kind : {left : ℕ} {ks os scope : List ℕ} {at n : ℕ} (t : Taken left ks os scope at n) (r : Result Kind Refused) (k : Kind)
+pub same-kind : {left : ℕ} {ks os scope : List ℕ} {at n : ℕ} (t : Taken left ks os scope at n) (r : Result TableKind Refused) (k : TableKind)
     → r ≡ found_at at (kind_named (kind_of (get_or ks at 0))) → r ≡ Ok k → t.kind ≡ k
 same-kind t r k e h = same-value (sym (has-kind t r e) ∙ h)
 

@@ -9,8 +9,8 @@ use Rattle.job.specs.Node.{Node}
 use Rattle.job.specs.Construct.{own_nodes}
 use Rattle.job.specs.Words.{head_words, param_words, node_words, rows_of_nodes}
 use Rattle.job.proofs.Stores.{sets-append}
-use Rattle.entries.specs.Kind.{join_of}
-use Rattle.entries.specs.declared.kind.JoinKind.TheVariants as joins
+use Rattle.entries.specs.NamedKind.{join_of}
+use Rattle.entries.specs.declared.table_kind.JoinKind.TheVariants as joins
 
 -- the row of one node, and of one node before others
 row_last : (d d' : List ℕ) (n : ℕ) (x : Node) → d' ≡ sets d (head_words + 12 * n) (node_words x)

@@ -5,9 +5,9 @@ use mathlib.Core.List.{List, ◌∷◌}
 use lib.ListN.{length}
 use Rattle.job.specs.Syntax.{scope_left, scope_right}
 use Rattle.job.specs.Construct.{own, next_left, next_right}
-use Rattle.entries.specs.Kind.{join_of}
+use Rattle.entries.specs.NamedKind.{join_of}
 use Rattle.entries.specs.Scope.{Means}
-use Rattle.entries.specs.declared.kind.JoinKind.TheVariants as joins
+use Rattle.entries.specs.declared.table_kind.JoinKind.TheVariants as joins
 use Rattle.entries.specs.declared.scope.Scope.{Scope}
 use Rattle.compiler.specs.PlanSides.{PlansLeft, PlansRight}
 

@@ -10,12 +10,12 @@ use Rattle.job.specs.Read.{Got, Read, got, refused}
 use Rattle.entries.specs.Scope.{Means}
 use Rattle.entries.specs.declared.scope.Scope.{Scope}
 use Rattle.compiler.specs.ExpressionCompiled.{reading}
-use Rattle.compiler.specs.declared.body.Sink.{Sink}
-use Rattle.compiler.specs.declared.body.Sink.TheVariants as sinks
+use Rattle.compiler.specs.declared.body.SinkKind.{SinkKind}
+use Rattle.compiler.specs.declared.body.SinkKind.TheVariants as sinks
 use Rattle.compiler.specs.declared.expression.Compiled.{Compiled}
 
 -- the sink of the goal, or of a definition
-unfoldable pub sink_of : Sink → Node
+unfoldable pub sink_of : SinkKind → Node
 sink_of sinks.Publish = Node.publish
 sink_of sinks.Return = Node.return
 
@@ -42,7 +42,7 @@ compiled_with_sink (got g) n = record { at = g.next; node = suc (n + node_count 
 compiled_with_sink (refused i e) n = record { at = e; node = n; root = n }
 
 -- the dag's words with the rows of the body's nodes, numbered from n, and of its sink
-abbrev pub stored_body : Read Exp → Sink → (n : ℕ) → List ℕ → List ℕ
+abbrev pub stored_body : Read Exp → SinkKind → (n : ℕ) → List ℕ → List ℕ
 stored_body (got g) sink n d =
     sets d (head_words + 12 * n) (rows_of_nodes (nodes_of g.value n (n + node_count g.value) ++ (sink_of sink ∷ [])))
 stored_body (refused i e) sink n d = d

@@ -14,20 +14,20 @@ use job::dag::{PUBLISH, RETURN, WORDS};
 
 // Toward what a body goes.
 #[derive(Clone, Copy)]
-pub enum Sink {
+pub enum SinkKind {
     Return,
     Publish,
 }
 
 // Stores the sink of the goal, or of a definition.
 #[tactic(auto, unfolding(crate::specs::Body::sink_of, job::specs::Words::node_words, job::specs::Words::param_words))]
-fn put_sink(dag: &mut [u32; WORDS], node: usize, sink: Sink)
+fn put_sink(dag: &mut [u32; WORDS], node: usize, sink: SinkKind)
     requires { node < 1022 }
     ensures { dag.new ≡ sets dag.old (head_words + 12 * node) (node_words (sink_of sink)) }
 {
     match sink {
-        Sink::Return => put(dag, node, [RETURN, 0, 0, 0]),
-        Sink::Publish => put(dag, node, [PUBLISH, 0, 0, 0]),
+        SinkKind::Return => put(dag, node, [RETURN, 0, 0, 0]),
+        SinkKind::Publish => put(dag, node, [PUBLISH, 0, 0, 0]),
     }
 }
 
@@ -39,7 +39,7 @@ pub fn compile_body(
     at: usize,
     node: usize,
     last: usize,
-    sink: Sink,
+    sink: SinkKind,
 ) -> Compiled
     requires { BodyAcceptedInSome parts.kinds.now parts.operands.now scope at node last }
     ensures { WhereBodyAccepted parts.entry.kinds.now parts.entry.operands.now scope at node last

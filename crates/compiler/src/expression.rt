@@ -6,8 +6,8 @@ use crate::call::put_call;
 use crate::join::{join_root, put_own};
 use crate::plan::{ExpressionPlan, left_plan, right_plan};
 use crate::store::put;
-use entries::kind::Kind;
 use entries::parts::EntryParts;
+use entries::table_kind::TableKind;
 use job::dag::{STOP, WORDS};
 
 // The entry and the node behind an expression, and the node at which a token enters it.
@@ -42,17 +42,17 @@ pub(crate) fn compile_expression(
     ensures { WhereAccepted left parts.entry.kinds.now parts.entry.operands.now plan.scope at plan.first
         (λ e. (result ≡ compiled e plan.first) × (dag.new ≡ stored e plan.first plan.next dag.old)) }
 {
-    match parts.kind(at).unwrap() {
-        Kind::Stop => {
+    match parts.kind_at(at).unwrap() {
+        TableKind::Stop => {
             put(dag, plan.first, [STOP, 0, 0, 0]);
             single(at + 1, plan.first)
         }
-        Kind::Site | Kind::Call => {
+        TableKind::Site | TableKind::Call => {
             let count = (parts.operand(at) / 65536) as usize;
             put_call(parts, dag, plan.first, at, plan.next);
             single(at + 1 + count, plan.first)
         }
-        Kind::Join(join) => {
+        TableKind::Join(join) => {
             let f = compile_expression(parts, dag, left - 1, at + 1, left_plan(join, plan));
             let r = right_plan(join, plan, f.node);
             let g = compile_expression(parts, dag, left - 1, f.at, r);
@@ -63,6 +63,6 @@ pub(crate) fn compile_expression(
                 root: join_root(join, plan, f.root),
             }
         }
-        Kind::Definition | Kind::Variable | Kind::Constant => unreachable!(),
+        TableKind::Definition | TableKind::Variable | TableKind::Constant => unreachable!(),
     }
 }

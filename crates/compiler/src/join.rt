@@ -3,16 +3,16 @@ ghost use Rattle.std.specs.Prelude.{◌≡◌, ◌+◌, ◌*◌, ◌<◌, ◌≤
 ghost use Rattle.std.proofs.lemmas.List.Edits.{sets};
 ghost use Rattle.job.specs.Construct.{own_nodes};
 ghost use Rattle.job.specs.Words.{head_words, rows_of_nodes};
-ghost use Rattle.entries.specs.Kind.{join_of};
+ghost use Rattle.entries.specs.NamedKind.{join_of};
 ghost use Rattle.compiler.specs.JoinRoot.{join_root};
 
 use crate::plan::ExpressionPlan;
 use crate::store::put;
-use entries::kind::JoinKind;
+use entries::table_kind::JoinKind;
 use job::dag::{ASSIGN, CHOKE, FORK, REMOVE, WHERE, WORDS};
 
 // The join's root, where `left` is that of its f: a sequence is entered at its f.
-#[tactic(auto, unfolding(entries::specs::Kind::join_of, crate::specs::JoinRoot::join_root))]
+#[tactic(auto, unfolding(entries::specs::NamedKind::join_of, crate::specs::JoinRoot::join_root))]
 pub(crate) fn join_root(join: JoinKind, plan: ExpressionPlan, left: u32) -> u32
     requires { plan.first < 1022 }
     ensures { result ≡ join_root (join_of join plan.scope.count) plan.first left }

@@ -1,13 +1,13 @@
 // How an expression is compiled, and how the two sides of a join are.
 ghost use Rattle.std.specs.Prelude.{◌≡◌, ◌<◌, true, length};
 ghost use Rattle.job.specs.Entry.{is_binder};
-ghost use Rattle.entries.specs.Kind.{join_meant, join_of};
+ghost use Rattle.entries.specs.NamedKind.{join_meant, join_of};
 ghost use Rattle.entries.specs.Scope.{ForEvery};
 ghost use Rattle.compiler.specs.PlanSides.{PlansLeft, PlansRight};
 
-use entries::kind::JoinKind;
 use entries::scope;
 use entries::scope::Scope;
+use entries::table_kind::JoinKind;
 
 // The variables in scope, the expression's first node, and the node toward which it goes.
 #[derive(Clone, Copy)]

@@ -18,15 +18,15 @@ use Rattle.job.proofs.Test.{never}
 use Rattle.entries.specs.Checked.{answered, Checked, checked_param_list, checked_exp}
 use Rattle.entries.specs.EntryFault.{unless, expression_fault}
 use Rattle.entries.specs.ExpressionSides.{JoinHolds}
-use Rattle.entries.specs.Kind.{kind_named, join_meant, kind_meant, join_of}
+use Rattle.entries.specs.NamedKind.{kind_named, join_meant, kind_meant, join_of}
 use Rattle.entries.specs.Parts.{entries_from}
 use Rattle.entries.specs.Refusal.{found_at}
 use Rattle.entries.specs.declared.checked.Extent.{Extent}
 use Rattle.entries.specs.declared.expression.Sides.{Sides}
-use Rattle.entries.specs.declared.kind.JoinKind.{JoinKind}
-use Rattle.entries.specs.declared.kind.JoinKind.TheVariants as joins
-use Rattle.entries.specs.declared.kind.Kind.{Kind}
-use Rattle.entries.specs.declared.kind.Kind.TheVariants as kinds
+use Rattle.entries.specs.declared.table_kind.JoinKind.{JoinKind}
+use Rattle.entries.specs.declared.table_kind.JoinKind.TheVariants as joins
+use Rattle.entries.specs.declared.table_kind.TableKind.{TableKind}
+use Rattle.entries.specs.declared.table_kind.TableKind.TheVariants as kinds
 use Rattle.entries.specs.declared.refusal.Refused.{Refused}
 use Rattle.entries.specs.declared.refusal.TableRefusal.TheVariants as refusals
 use Rattle.entries.proofs.CheckedLaws.{bind-refused, checked-next}
@@ -90,7 +90,7 @@ module _ (ks os : List ℕ) (left : ℕ) (scope : List ℕ) (at : ℕ) where
     unfolding answered
     refused-as w q = rw (here, exp-refused scope at (get_or ks at 0) (operand_at os at) behind left w q, case-of w)
 
-    module _ (q : Result Kind Refused) (eq : q ≡ found_at at (kind_named (kind_of (get_or ks at 0)))) where
+    module _ (q : Result TableKind Refused) (eq : q ≡ found_at at (kind_named (kind_of (get_or ks at 0)))) where
       pub exp-unknown : (x : Refused) → q ≡ Err x → Answers (Err x)
       unfolding expression_fault unless is_expression
       exp-unknown x h = let u = kind-unknown at _ q eq x h in rw (u.1) (refused-as refusals.Kind (go left u.0))
@@ -100,7 +100,7 @@ module _ (ks os : List ℕ) (left : ℕ) (scope : List ℕ) (at : ℕ) where
           go zero u = rw u
           go (suc left) u = rw u
 
-      module _ (k : Kind) (h : q ≡ Ok k) (o : ℕ) (eo : o ≡ operand_at os at) (f : Result (Unit {0}) Refused)
+      module _ (k : TableKind) (h : q ≡ Ok k) (o : ℕ) (eo : o ≡ operand_at os at) (f : Result (Unit {0}) Refused)
           (ef : f ≡ found_at at (expression_fault left scope (kind_meant k) o)) where
         its_kind : kind_of (get_or ks at 0) ≡ kind_meant k
         its_kind = kind-found at _ q eq k h

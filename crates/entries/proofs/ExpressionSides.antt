@@ -6,9 +6,9 @@ use lib.ListN.{length}
 use Rattle.job.specs.Syntax.{scope_left, scope_right}
 use Rattle.job.specs.Construct.{own}
 use Rattle.entries.specs.ExpressionSides.{JoinHolds}
-use Rattle.entries.specs.Kind.{join_of}
+use Rattle.entries.specs.NamedKind.{join_of}
 use Rattle.entries.specs.Scope.{Means}
-use Rattle.entries.specs.declared.kind.JoinKind.TheVariants as joins
+use Rattle.entries.specs.declared.table_kind.JoinKind.TheVariants as joins
 use Rattle.entries.specs.declared.scope.Scope.{Scope}
 
 -- the scopes of the sides; a binder's number is the length of the scope

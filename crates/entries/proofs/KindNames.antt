@@ -3,17 +3,17 @@ use mathlib.Core.Path.{◌≡◌, refl, sym, ap, ◌∙◌}
 use Prim.Native.Nat.{ℕ}
 use Rattle.std.specs.Prelude.{Result, Ok, Err}
 use Rattle.job.specs.Entry.{EntryKind, kind_of}
-use Rattle.entries.specs.Kind.{kind_named, join_meant, kind_meant}
+use Rattle.entries.specs.NamedKind.{kind_named, join_meant, kind_meant}
 use Rattle.entries.specs.Refusal.{found_at}
-use Rattle.entries.specs.declared.kind.Kind.{Kind}
-use Rattle.entries.specs.declared.kind.Kind.TheVariants as kinds
-use Rattle.entries.specs.declared.kind.JoinKind.TheVariants as joins
+use Rattle.entries.specs.declared.table_kind.TableKind.{TableKind}
+use Rattle.entries.specs.declared.table_kind.TableKind.TheVariants as kinds
+use Rattle.entries.specs.declared.table_kind.JoinKind.TheVariants as joins
 use Rattle.entries.specs.declared.refusal.Refused.{Refused}
 use Rattle.entries.specs.declared.refusal.TableRefusal.TheVariants as refusals
 use Rattle.entries.proofs.RefusalNumbers.{clash, same-case, found, not-found}
 
 -- the table's kind is the one meant
-pub named-meant : (n : EntryKind) (k : Kind) → kind_named n ≡ Ok k → n ≡ kind_meant k
+pub named-meant : (n : EntryKind) (k : TableKind) → kind_named n ≡ Ok k → n ≡ kind_meant k
 unfolding kind_named kind_meant join_meant
 named-meant EntryKind.stop k h = let e : kinds.Stop ≡ k = cc in rw (← e)
 named-meant EntryKind.site k h = let e : kinds.Site ≡ k = cc in rw (← e)
@@ -41,8 +41,8 @@ named-none EntryKind.constant w h = clash h
 named-none EntryKind.unknown w h = (refl, sym (same-case h))
 
 -- of the kind that is found at an entry
-module _ (at : ℕ) (n : EntryKind) (r : Result Kind Refused) (er : r ≡ found_at at (kind_named n)) where
-  pub kind-found : (k : Kind) → r ≡ Ok k → n ≡ kind_meant k
+module _ (at : ℕ) (n : EntryKind) (r : Result TableKind Refused) (er : r ≡ found_at at (kind_named n)) where
+  pub kind-found : (k : TableKind) → r ≡ Ok k → n ≡ kind_meant k
   kind-found k h = named-meant n k (found at (kind_named n) k (sym er ∙ h))
 
   pub kind-unknown : (x : Refused) → r ≡ Err x → (n ≡ EntryKind.unknown) × (x ≡ record { why = refusals.Kind; entry = at })

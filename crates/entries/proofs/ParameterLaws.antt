@@ -16,12 +16,12 @@ use Rattle.job.specs.Read.{Got, Read, got, refused, ◌>>=◌, gives, need, entr
 use Rattle.job.proofs.Position.{entries-end, entries_at, param-from}
 use Rattle.entries.specs.Checked.{answered, checked_param_list}
 use Rattle.entries.specs.EntryFault.{Fault, unless, parameter_kind_fault, parameter_fault}
-use Rattle.entries.specs.Kind.{kind_named, join_meant, kind_meant}
+use Rattle.entries.specs.NamedKind.{kind_named, join_meant, kind_meant}
 use Rattle.entries.specs.Parts.{entries_from}
 use Rattle.entries.specs.Refusal.{number_of, found_at}
-use Rattle.entries.specs.declared.kind.JoinKind.TheVariants as joins
-use Rattle.entries.specs.declared.kind.Kind.{Kind}
-use Rattle.entries.specs.declared.kind.Kind.TheVariants as kinds
+use Rattle.entries.specs.declared.table_kind.JoinKind.TheVariants as joins
+use Rattle.entries.specs.declared.table_kind.TableKind.{TableKind}
+use Rattle.entries.specs.declared.table_kind.TableKind.TheVariants as kinds
 use Rattle.entries.specs.declared.refusal.Refused.{Refused}
 use Rattle.entries.specs.declared.refusal.TableRefusal.{TableRefusal}
 use Rattle.entries.specs.declared.refusal.TableRefusal.TheVariants as refusals
@@ -39,7 +39,7 @@ module _ (ks os scope : List ℕ) (at : ℕ) where
   unfolding parameter_fault found_at
   param_end n e l = rw (entries-end ks os at (omega arith))
 
-  module _ (n : ℕ) (en : n ≡ length ks) (l : at < n) (q : Result Kind Refused) (eq : q ≡ found_at at (kind_named (kind_of (get_or ks at 0)))) where
+  module _ (n : ℕ) (en : n ≡ length ks) (l : at < n) (q : Result TableKind Refused) (eq : q ≡ found_at at (kind_named (kind_of (get_or ks at 0)))) where
     opened : parameter_fault scope (entries_from ks os at) ≡ parameter_kind_fault scope (kind_of (get_or ks at 0)) (operand_at os at)
     unfolding parameter_fault
     opened = rw (entries_at ks os at (omega arith))
@@ -48,7 +48,7 @@ module _ (ks os scope : List ℕ) (at : ℕ) where
     unfolding parameter_kind_fault found_at
     param-unknown x h = let u = kind-unknown at _ q eq x h in rw (opened, u.0, u.1)
 
-    module _ (k : Kind) (h : q ≡ Ok k) where
+    module _ (k : TableKind) (h : q ≡ Ok k) where
       named : parameter_fault scope (entries_from ks os at) ≡ parameter_kind_fault scope (kind_meant k) (operand_at os at)
       named = opened ∙ ap (λ n. parameter_kind_fault scope n (operand_at os at)) (kind-found at _ q eq k h)
 
@@ -61,7 +61,7 @@ module _ (ks os scope : List ℕ) (at : ℕ) where
       unfolding parameter_kind_fault kind_meant join_meant found_at
       param-other f g = rw (named, go k f g)
         where
-          go : (k : Kind) → (k ≡ kinds.Constant → ⊥) → (k ≡ kinds.Variable → ⊥)
+          go : (k : TableKind) → (k ≡ kinds.Constant → ⊥) → (k ≡ kinds.Variable → ⊥)
               → parameter_kind_fault scope (kind_meant k) (operand_at os at) ≡ Err refusals.Kind
           go kinds.Stop f g = refl
           go kinds.Site f g = refl

@@ -1,6 +1,6 @@
 -- The answers for the entries of an expression, in the words of the definitions of `job`.
 pub mod Refusal
-pub mod Kind
+pub mod NamedKind
 pub mod Parts
 pub mod Checked
 pub mod Scope

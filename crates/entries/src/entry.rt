@@ -2,14 +2,14 @@
 ghost use Rattle.std.specs.Prelude.{◌≡◌, ◌+◌, ◌*◌, ◌≤◌, length, take, drop};
 ghost use Rattle.job.specs.Number.{number};
 ghost use Rattle.job.specs.Entry.{row_holds};
-ghost use Rattle.entries.specs.Kind.{kind_meant};
+ghost use Rattle.entries.specs.NamedKind.{kind_meant};
 ghost use Rattle.entries.specs.EntryFault.{expression_fault};
 ghost use Rattle.entries.specs.Refusal.{found_at};
 ghost use Rattle.entries.specs.Scope.{ForEvery};
 
-use crate::kind::Kind;
 use crate::refusal::{Refused, TableRefusal};
 use crate::scope::Scope;
+use crate::table_kind::TableKind;
 use job::bounds::{PARAMETER_LIMIT, SCOPE_LIMIT};
 use job::site_parameters;
 
@@ -29,22 +29,22 @@ pub fn word_at(bytes: &[u8], i: usize) -> u32
 }
 
 // Does an operand keep to its kind's row of the table?
-#[tactic(auto, unfolding(job::specs::Entry::row_holds, crate::specs::Kind::kind_meant, crate::specs::Kind::join_meant))]
-fn row_holds(kind: Kind, operand: u32) -> bool
+#[tactic(auto, unfolding(job::specs::Entry::row_holds, crate::specs::NamedKind::kind_meant, crate::specs::NamedKind::join_meant))]
+fn row_holds(kind: TableKind, operand: u32) -> bool
     ensures { result ≡ row_holds (kind_meant kind) operand }
 {
     match kind {
-        Kind::Stop | Kind::Join(_) => operand == 0,
-        Kind::Site => site_parameters::takes(operand % 65536, operand / 65536),
-        Kind::Call => operand / 65536 <= PARAMETER_LIMIT,
-        Kind::Definition => operand <= PARAMETER_LIMIT,
-        Kind::Variable | Kind::Constant => true,
+        TableKind::Stop | TableKind::Join(_) => operand == 0,
+        TableKind::Site => site_parameters::takes(operand % 65536, operand / 65536),
+        TableKind::Call => operand / 65536 <= PARAMETER_LIMIT,
+        TableKind::Definition => operand <= PARAMETER_LIMIT,
+        TableKind::Variable | TableKind::Constant => true,
     }
 }
 
 // What refuses the entry `at` by itself, where an expression is read: so many levels of depth are left.
 pub(crate) fn fault(
-    kind: Kind,
+    kind: TableKind,
     operand: u32,
     left: usize,
     scope: Scope,

@@ -4,15 +4,15 @@ ghost use Rattle.job.specs.Entry.{is_binder};
 ghost use Rattle.job.specs.Read.{read_exp};
 ghost use Rattle.entries.specs.Checked.{checked_exp};
 ghost use Rattle.entries.specs.ExpressionSides.{JoinHolds};
-ghost use Rattle.entries.specs.Kind.{join_meant};
+ghost use Rattle.entries.specs.NamedKind.{join_meant};
 ghost use Rattle.entries.specs.Parts.{Parts, entries_from};
 ghost use Rattle.entries.specs.Scope.{HasMeaning, ForEvery};
 
 use crate::checked::Extent;
-use crate::kind::{JoinKind, Kind};
 use crate::parts::EntryParts;
 use crate::refusal::{Refused, TableRefusal};
 use crate::scope::Scope;
+use crate::table_kind::{JoinKind, TableKind};
 use crate::{entry, parameter, scope};
 
 // The scopes of a join's left and right side, and the nodes that the join makes itself.
@@ -64,15 +64,15 @@ pub fn check_expression(
             entry: at,
         });
     }
-    let kind = parts.kind(at)?;
+    let kind = parts.kind_at(at)?;
     let operand = parts.operand(at);
     entry::fault(kind, operand, left, scope, at)?;
     match kind {
-        Kind::Stop => Ok(Extent {
+        TableKind::Stop => Ok(Extent {
             next: at + 1,
             nodes: 1,
         }),
-        Kind::Site | Kind::Call => {
+        TableKind::Site | TableKind::Call => {
             let next = parameter::check_parameters(
                 parts,
                 (operand / 65536) as usize,
@@ -81,7 +81,7 @@ pub fn check_expression(
             )?;
             Ok(Extent { next, nodes: 1 })
         }
-        Kind::Join(join) => {
+        TableKind::Join(join) => {
             let sides = sides_of(join, scope);
             let first = check_expression(parts, left - 1, sides.left, at + 1)?;
             let second = check_expression(parts, left - 1, sides.right, first.next)?;
@@ -90,6 +90,6 @@ pub fn check_expression(
                 nodes: sides.nodes + first.nodes + second.nodes,
             })
         }
-        Kind::Definition | Kind::Variable | Kind::Constant => unreachable!(),
+        TableKind::Definition | TableKind::Variable | TableKind::Constant => unreachable!(),
     }
 }

@@ -5,8 +5,8 @@
 pub mod checked;
 pub mod entry;
 pub mod expression;
-pub mod kind;
 mod parameter;
 pub mod parts;
 pub mod refusal;
 pub mod scope;
+pub mod table_kind;

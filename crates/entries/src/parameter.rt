@@ -7,11 +7,11 @@ ghost use Rattle.entries.specs.Parts.{Parts, entries_from};
 ghost use Rattle.entries.specs.Refusal.{found_at};
 ghost use Rattle.entries.specs.Scope.{HasMeaning, ForEvery};
 
-use crate::kind::Kind;
 use crate::parts::EntryParts;
 use crate::refusal::{Refused, TableRefusal};
 use crate::scope;
 use crate::scope::Scope;
+use crate::table_kind::TableKind;
 
 // What refuses the parameter at entry `at`.
 fn parameter_fault(parts: EntryParts, scope: Scope, at: usize) -> Result<(), Refused>
@@ -24,9 +24,9 @@ fn parameter_fault(parts: EntryParts, scope: Scope, at: usize) -> Result<(), Ref
             entry: at,
         });
     }
-    match parts.kind(at)? {
-        Kind::Constant => Ok(()),
-        Kind::Variable => {
+    match parts.kind_at(at)? {
+        TableKind::Constant => Ok(()),
+        TableKind::Variable => {
             if scope::is_bound(scope, parts.operand(at)) {
                 return Ok(());
             }

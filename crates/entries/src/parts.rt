@@ -1,13 +1,13 @@
 // The entries of a table: "N kind bytes, then N operands of 4 bytes".
 ghost use Rattle.std.specs.Prelude.{◌≡◌, ◌<◌, length, get_or};
 ghost use Rattle.job.specs.Entry.{kind_of, operand_at};
-ghost use Rattle.entries.specs.Kind.{kind_named};
+ghost use Rattle.entries.specs.NamedKind.{kind_named};
 ghost use Rattle.entries.specs.Parts.{Parts, AllBytes};
 ghost use Rattle.entries.specs.Refusal.{found_at};
 
 use crate::entry::word_at;
-use crate::kind::Kind;
 use crate::refusal::Refused;
+use crate::table_kind::TableKind;
 use std::convert::TryFrom;
 
 // The kinds and the operands of at most 512 entries.
@@ -29,11 +29,11 @@ impl<'a> EntryParts<'a> {
 
     // The kind of entry `at`.
     #[tactic(auto, unfolding(crate::specs::Refusal::found_at))]
-    pub fn kind(self, at: usize) -> Result<Kind, Refused>
+    pub fn kind_at(self, at: usize) -> Result<TableKind, Refused>
         requires { at < length self.kinds.now }
         ensures { result ≡ found_at at (kind_named (kind_of (get_or self.entry.kinds.now at 0))) }
     {
-        Kind::try_from(self.kinds[at]).map_err(|why| Refused { why, entry: at })
+        TableKind::try_from(self.kinds[at]).map_err(|why| Refused { why, entry: at })
     }
 
     // The operand of entry `at`.

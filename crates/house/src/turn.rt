@@ -4,7 +4,7 @@ ghost use Rattle.std.specs.Prelude.{◌≡◌, Bool, false, List, ℕ, ◌+◌, 
 ghost use Rattle.job.specs.Words.{dag_of};
 ghost use Rattle.model.specs.declared.record.Machine.{Machine};
 ghost use Rattle.model.specs.Output.Line.{refused, text_of};
-ghost use Rattle.lines.specs.Shown.{ShowsBytes};
+ghost use Rattle.lines.specs.WindowShows.{ShowsMore};
 ghost use Rattle.acts.specs.Acting.{SomeMachine, Lawful, QueueHasToken};
 ghost use Rattle.acts.specs.SharedFrames.{OneCallee};
 ghost use Rattle.turns.specs.Turn.{turn_outcome};
@@ -24,10 +24,7 @@ use unchecked::step::step;
 // The line of an answer to a handle that is not open: it is the same for all.
 fn show_not_open(window: &mut Window)
     requires { window.old.total + 80 ≤ 1000000000 }
-    ensures same_reference { window.new.output.ghost_name ≡ window.old.output.ghost_name }
-    ensures from { window.new.from ≡ window.old.from }
-    ensures shows_bytes { ShowsBytes window.old.output.now window.old.from window.old.total (text_of (refused 12))
-        window.new.output.now window.new.total }
+    ensures shows { ShowsMore window.old window.new (text_of (refused 12)) }
     ensures upper_bound { window.new.total ≤ window.old.total + 80 }
 {
     window.show_line(Line::Refused(u8::from(Refusal::NotOpen)));
@@ -36,10 +33,7 @@ fn show_not_open(window: &mut Window)
 // The line of a refused record. Late answers may be many: theirs is put without a look at digits.
 fn show_declined(number: u8, window: &mut Window)
     requires { window.old.total + 80 ≤ 1000000000 }
-    ensures same_reference { window.new.output.ghost_name ≡ window.old.output.ghost_name }
-    ensures from { window.new.from ≡ window.old.from }
-    ensures shows_bytes { ShowsBytes window.old.output.now window.old.from window.old.total (text_of (refused number))
-        window.new.output.now window.new.total }
+    ensures shows { ShowsMore window.old window.new (text_of (refused number)) }
     ensures upper_bound { window.new.total ≤ window.old.total + 80 }
 {
     if number == u8::from(Refusal::NotOpen) {

@@ -2,5 +2,6 @@
 pub mod WordParts
 pub mod LineParts
 pub mod ShownBytes
+pub mod WindowLaws
 pub mod ReportLines
 pub mod LastLines

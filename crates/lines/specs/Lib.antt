@@ -2,5 +2,6 @@
 pub mod LineTold
 pub mod WordBytes
 pub mod Shown
+pub mod WindowShows
 pub mod Report
 pub mod LastLines

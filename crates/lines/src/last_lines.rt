@@ -2,7 +2,7 @@
 ghost use Rattle.std.specs.Prelude.{◌≡◌, [], ◌∷◌, ◌+◌, ◌≤◌};
 ghost use Rattle.model.specs.Output.Line.{text_of_all, end, limit};
 ghost use Rattle.lines.specs.LastLines.{last_lines};
-ghost use Rattle.lines.specs.Shown.{ShowsBytes};
+ghost use Rattle.lines.specs.WindowShows.{ShowsMore};
 
 use crate::line::Line;
 use crate::shown::Window;
@@ -11,10 +11,7 @@ impl Window<'_> {
     // "With 100,000 steps made and a token ready: `limit`, then `end`."
     pub fn show_limit(&mut self, steps: u32)
         requires { self.old.total + 160 ≤ 1000000000 }
-        ensures same_reference { self.new.output.ghost_name ≡ self.old.output.ghost_name }
-        ensures from { self.new.from ≡ self.old.from }
-        ensures shows_bytes { ShowsBytes self.old.output.now self.old.from self.old.total
-            (text_of_all (limit ∷ end steps ∷ [])) self.new.output.now self.new.total }
+        ensures { ShowsMore self.old self.new (text_of_all (limit ∷ end steps ∷ [])) }
     {
         self.show_line(Line::Limit);
         self.show_line(Line::End(steps));
@@ -23,10 +20,7 @@ impl Window<'_> {
     // "A trailing piece prints `short`": so many bytes are left, fewer than a record has. "Last .. `end` and accepted steps."
     pub fn show_last(&mut self, left: usize, steps: u32)
         requires { self.old.total + 160 ≤ 1000000000 }
-        ensures same_reference { self.new.output.ghost_name ≡ self.old.output.ghost_name }
-        ensures from { self.new.from ≡ self.old.from }
-        ensures shows_bytes { ShowsBytes self.old.output.now self.old.from self.old.total
-            (text_of_all (last_lines left steps)) self.new.output.now self.new.total }
+        ensures { ShowsMore self.old self.new (text_of_all (last_lines left steps)) }
     {
         if left != 0 {
             self.show_line(Line::Short);

@@ -1,7 +1,7 @@
 // The line of a reply, where it has one.
 ghost use Rattle.std.specs.Prelude.{◌≡◌, ◌+◌, ◌≤◌};
 ghost use Rattle.lines.specs.Report.{reply_text};
-ghost use Rattle.lines.specs.Shown.{ShowsBytes};
+ghost use Rattle.lines.specs.WindowShows.{ShowsMore};
 
 use crate::line::Line;
 use crate::shown::Window;
@@ -11,10 +11,7 @@ impl Window<'_> {
     // (There are four values beside a reply.)
     pub fn show_reply(&mut self, reply: Reply, values: [i32; 4])
         requires { self.old.total + 80 ≤ 1000000000 }
-        ensures same_reference { self.new.output.ghost_name ≡ self.old.output.ghost_name }
-        ensures from { self.new.from ≡ self.old.from }
-        ensures shows_bytes { ShowsBytes self.old.output.now self.old.from self.old.total (reply_text reply values)
-            self.new.output.now self.new.total }
+        ensures shows { ShowsMore self.old self.new (reply_text reply values) }
         ensures upper_bound { self.new.total ≤ self.old.total + 80 }
     {
         match reply {

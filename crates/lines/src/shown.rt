@@ -2,7 +2,8 @@
 ghost use Rattle.std.specs.Prelude.{◌≡◌, true, ◌+◌, ◌-◌, ◌<◌, ◌≤◌, length};
 ghost use Rattle.model.specs.Output.Line.{text_of};
 ghost use Rattle.lines.specs.LineTold.{told, HasFewValues};
-ghost use Rattle.lines.specs.Shown.{ShowsBytes, with_byte};
+ghost use Rattle.lines.specs.Shown.{with_byte};
+ghost use Rattle.lines.specs.WindowShows.{ShowsMore};
 
 use crate::line::Line;
 
@@ -62,10 +63,7 @@ impl<'a> Window<'a> {
     // The bytes of a line.
     fn show_bytes(&mut self, line: &[u8])
         requires { self.old.total + length line.now ≤ 1000000000 }
-        ensures same_reference { self.new.output.ghost_name ≡ self.old.output.ghost_name }
-        ensures from { self.new.from ≡ self.old.from }
-        ensures shows_bytes { ShowsBytes self.old.output.now self.old.from self.old.total line.now
-            self.new.output.now self.new.total }
+        ensures { ShowsMore self.old self.new line.now }
     {
         for &byte in line {
             self.show_byte(byte);
@@ -76,10 +74,7 @@ impl<'a> Window<'a> {
     #[inline(always)]
     pub fn show_line(&mut self, line: Line)
         requires { (self.old.total + 80 ≤ 1000000000) × HasFewValues line }
-        ensures same_reference { self.new.output.ghost_name ≡ self.old.output.ghost_name }
-        ensures from { self.new.from ≡ self.old.from }
-        ensures shows_bytes { ShowsBytes self.old.output.now self.old.from self.old.total (text_of (told line.entry))
-            self.new.output.now self.new.total }
+        ensures shows { ShowsMore self.old self.new (text_of (told line.entry)) }
         ensures upper_bound { self.new.total ≤ self.old.total + 80 }
     {
         if self.has_room() {

@@ -19,7 +19,7 @@ use Rattle.entries.specs.declared.scope.Scope.{Scope}
 use Rattle.reader.specs.Definition.{read_definition_list, definition_nodes, definition_list_nodes, definition_sizes}
 use Rattle.reader.proofs.DefinitionLoop.{Defined, defined}
 use Rattle.compiler.specs.ExpressionCompiled.{reading}
-use Rattle.compiler.specs.declared.body.Sink.TheVariants as sinks
+use Rattle.compiler.specs.declared.body.SinkKind.TheVariants as sinks
 use Rattle.compiler.specs.Body.{Sunk, sunk, BodyAccepted, compiled_with_sink, stored_body}
 use Rattle.compiler.specs.declared.expression.Compiled.{Compiled}
 use Rattle.loader.specs.ProgramStored.{Leads, DefinitionsRead, definitions, nodes_before, bodies_before, place_behind, words_before}

@@ -22,7 +22,7 @@ use Rattle.reader.specs.Definition.{read_definition_list, definition_list_nodes,
 use Rattle.reader.proofs.ProgramNodes.{construct-length}
 use Rattle.reader.proofs.ProgramParts.{AllDefined, all-defined, Parted, parted}
 use Rattle.compiler.specs.ExpressionCompiled.{reading}
-use Rattle.compiler.specs.declared.body.Sink.TheVariants as sinks
+use Rattle.compiler.specs.declared.body.SinkKind.TheVariants as sinks
 use Rattle.compiler.specs.Body.{Sunk, sunk, BodyAccepted, WhereBodyAccepted, compiled_with_sink, stored_body}
 use Rattle.compiler.specs.declared.expression.Compiled.{Compiled}
 use Rattle.loader.specs.ProgramStored.{Leads, DefinitionsRead, definitions, Accepts, accepts, place_behind, stored_definitions}

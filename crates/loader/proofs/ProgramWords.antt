@@ -15,7 +15,7 @@ use Rattle.job.proofs.Words.{body-words-length}
 use Rattle.job.proofs.Stores.{sets-append, sets-swap}
 use Rattle.job.proofs.NodeRows.{rows_append, rows-length}
 use Rattle.reader.specs.Definition.{definition_nodes, definition_list_nodes}
-use Rattle.compiler.specs.declared.body.Sink.TheVariants as sinks
+use Rattle.compiler.specs.declared.body.SinkKind.TheVariants as sinks
 use Rattle.compiler.specs.Body.{sink_of}
 use Rattle.loader.specs.ProgramStored.{nodes_before, bodies_before, words_before}
 

@@ -9,7 +9,7 @@ use Rattle.job.specs.Words.{head_words, rows_of_nodes, body_words, written}
 use Rattle.job.specs.Read.{Got, Read, got, refused}
 use Rattle.reader.specs.Definition.{definition_nodes, definition_list_nodes, definition_sizes}
 use Rattle.compiler.specs.Body.{sink_of}
-use Rattle.compiler.specs.declared.body.Sink.TheVariants as sinks
+use Rattle.compiler.specs.declared.body.SinkKind.TheVariants as sinks
 use Rattle.loader.specs.declared.program.Place.{Place}
 
 -- these words stand at the front of the array

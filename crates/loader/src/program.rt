@@ -7,7 +7,7 @@ ghost use Rattle.loader.specs.ProgramStored.{DefinitionsRead, Accepts, place_beh
 
 use crate::head;
 use compiler::body;
-use compiler::body::Sink;
+use compiler::body::SinkKind;
 use entries::parts::EntryParts;
 use entries::scope;
 use job::bounds::MOST_DEFINITIONS;
@@ -40,7 +40,7 @@ fn compile_definitions(
         let formals = parts.operand(at);
         let last = node + sizes[i] as usize - 1;
         let scope = scope::of_formals(formals);
-        let body = body::compile_body(parts, dag, scope, at + 1, node, last, Sink::Return);
+        let body = body::compile_body(parts, dag, scope, at + 1, node, last, SinkKind::Return);
         head::put_definition(dag, i, body.root, formals);
         at = body.at;
         node = body.node;
@@ -71,7 +71,7 @@ pub(crate) fn compile_program(
         before.at,
         before.node,
         nodes - 1,
-        Sink::Publish,
+        SinkKind::Publish,
     );
     head::put_sizes(dag, goal.node as u32, count as u32, goal.root);
 }

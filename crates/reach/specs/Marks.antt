@@ -6,12 +6,11 @@ use Rattle.model.specs.Machine.Active.{is_active}
 use Rattle.model.specs.Machine.Blank.{blank_token, blank_cell, token_at, cell_at}
 use Rattle.model.specs.Machine.InUse.{mark_chain, mark_from_each, cells_of, tokens_used, used_cells, cells_used, marked, rest_blanked}
 use Rattle.model.specs.Machine.FreePlace.{next_place}
-use Rattle.model.specs.Machine.Update.{put, with_tables}
+use Rattle.model.specs.Machine.Update.{with_tables}
 use Rattle.model.specs.declared.cell.Cell.{Cell}
 use Rattle.model.specs.declared.record.Machine.{Machine}
 use Rattle.model.specs.Machine.Held.{Place}
 use Rattle.model.specs.declared.token.Token.{Token}
-use Rattle.record.specs.Changes.{store_cell}
 use Rattle.reach.specs.declared.used.Marks.{Marks}
 
 -- the chain of callers from a place, and the chains of parents from one place and from some
@@ -32,15 +31,6 @@ active_marked m p marks =
 unfoldable pub held_marked : Machine → ℕ → Bool → List Bool → List Bool
 held_marked m p true marks = cells_marked m (cells_of (token_at m.tokens p)) marks
 held_marked m p false marks = marks
-
--- a row that is not in use is made blank
-unfoldable pub swept_token : ℕ → Bool → Machine → Machine
-swept_token p true m = m
-swept_token p false m = put p blank_token m
-
-unfoldable pub swept_cell : ℕ → Bool → Machine → Machine
-swept_cell c true m = m
-swept_cell c false m = store_cell c blank_cell m
 
 -- the tokens that are in use, and the cells that given tokens reach; the rest of the table is made blank
 abbrev pub tokens_swept : Machine → Machine

@@ -15,10 +15,10 @@ use Rattle.job.proofs.Test.{ne_eqb}
 use Rattle.job.proofs.Position.{entries-end, entries_at}
 use Rattle.entries.specs.Parts.{entries_from}
 use Rattle.entries.specs.Checked.{answered, checked_test}
-use Rattle.entries.specs.Kind.{kind_named, kind_meant}
+use Rattle.entries.specs.NamedKind.{kind_named, kind_meant}
 use Rattle.entries.specs.Refusal.{found_at}
-use Rattle.entries.specs.declared.kind.Kind.{Kind}
-use Rattle.entries.specs.declared.kind.Kind.TheVariants as kinds
+use Rattle.entries.specs.declared.table_kind.TableKind.{TableKind}
+use Rattle.entries.specs.declared.table_kind.TableKind.TheVariants as kinds
 use Rattle.entries.proofs.CheckedLaws.{bind-refused, passed}
 use Rattle.entries.proofs.KindNames.{kind-found, kind-call}
 use Rattle.std.specs.Prelude.{Result, Ok, Err}
@@ -40,7 +40,7 @@ module _ (fs : List ℕ) (o : ℕ) where
   call-counted l n e = rw (← l, e)
 
 -- the answer for one entry
-module _ (fs ks os : List ℕ) (i : ℕ) (q : Result Kind Refused) (eq : q ≡ found_at i (kind_named (kind_of (get_or ks i 0)))) where
+module _ (fs ks os : List ℕ) (i : ℕ) (q : Result TableKind Refused) (eq : q ≡ found_at i (kind_named (kind_of (get_or ks i 0)))) where
   abbrev Judges : Result (Unit {0}) Refused → Type 0
   Judges r = r ≡ checked_test (need (call_holds fs (entry (get_or ks i 0) (operand_at os i))) 8 i)
 

@@ -15,12 +15,12 @@ use Rattle.job.proofs.Test.{le-leb, lt-not-leb}
 use Rattle.job.proofs.Position.{entries-end, entries_at}
 use Rattle.entries.specs.Parts.{entries_from}
 use Rattle.entries.specs.Checked.{answered, Checked, checked_exp}
-use Rattle.entries.specs.Kind.{kind_named, join_meant, kind_meant}
+use Rattle.entries.specs.NamedKind.{kind_named, join_meant, kind_meant}
 use Rattle.entries.specs.Refusal.{found_at}
 use Rattle.entries.specs.declared.checked.Extent.{Extent}
-use Rattle.entries.specs.declared.kind.JoinKind.TheVariants as joins
-use Rattle.entries.specs.declared.kind.Kind.{Kind}
-use Rattle.entries.specs.declared.kind.Kind.TheVariants as kinds
+use Rattle.entries.specs.declared.table_kind.JoinKind.TheVariants as joins
+use Rattle.entries.specs.declared.table_kind.TableKind.{TableKind}
+use Rattle.entries.specs.declared.table_kind.TableKind.TheVariants as kinds
 use Rattle.reader.specs.Definition.{checked_definition}
 use Rattle.std.specs.Prelude.{Result, Ok, Err}
 use Rattle.entries.specs.declared.refusal.Refused.{Refused}
@@ -30,7 +30,7 @@ use Rattle.entries.proofs.KindNames.{kind-found, kind-unknown}
 use Rattle.entries.proofs.RefusalNumbers.{clash}
 
 -- an entry of another kind is no definition
-other-kind : (k : Kind) → (k ≡ kinds.Definition → ⊥) → is_definition (kind_meant k) ≡ false
+other-kind : (k : TableKind) → (k ≡ kinds.Definition → ⊥) → is_definition (kind_meant k) ≡ false
 unfolding is_definition kind_meant join_meant
 other-kind kinds.Stop f = refl
 other-kind kinds.Site f = refl
@@ -64,12 +64,12 @@ module _ (ks os : List ℕ) (at : ℕ) (n : ℕ) (en : n ≡ length ks) where
   unfolding read_definition entry_at ◌>>=◌ answered
   definition-end l = rw (entries-end ks os at (omega arith))
 
-  module _ (l : at < n) (q : Result Kind Refused) (eq : q ≡ found_at at (kind_named (kind_of (get_or ks at 0)))) where
+  module _ (l : at < n) (q : Result TableKind Refused) (eq : q ≡ found_at at (kind_named (kind_of (get_or ks at 0)))) where
     pub definition-unknown : (x : Refused) → q ≡ Err x → Answers (Err x)
     unfolding read_definition entry_at need is_definition ◌>>=◌ answered
     definition-unknown x h = let u = kind-unknown at _ q eq x h in rw (entries_at ks os at (omega arith), u.0, u.1)
 
-    module _ (k : Kind) (h : q ≡ Ok k) where
+    module _ (k : TableKind) (h : q ≡ Ok k) where
       its_kind : kind_of (get_or ks at 0) ≡ kind_meant k
       its_kind = kind-found at _ q eq k h
 

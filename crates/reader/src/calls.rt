@@ -5,9 +5,9 @@ ghost use Rattle.job.specs.Read.{need, call_holds, definitions_hold};
 ghost use Rattle.entries.specs.Checked.{checked_test};
 ghost use Rattle.entries.specs.Parts.{Parts};
 
-use entries::kind::Kind;
 use entries::parts::EntryParts;
 use entries::refusal::{Refused, TableRefusal};
+use entries::table_kind::TableKind;
 
 // May a call with this operand stand beside definitions with these counts of formals?
 fn call_holds(operand: u32, formals: &[u32]) -> bool
@@ -25,10 +25,10 @@ fn check_call(parts: EntryParts, formals: &[u32], at: usize) -> Result<(), Refus
     ensures { result ≡ checked_test (need (call_holds formals.now
         (entry (get_or parts.entry.kinds.now at 0) (operand_at parts.entry.operands.now at))) 8 at) }
 {
-    let Ok(kind) = parts.kind(at) else {
+    let Ok(kind) = parts.kind_at(at) else {
         return Ok(());
     };
-    let Kind::Call = kind else {
+    let TableKind::Call = kind else {
         return Ok(());
     };
     if call_holds(parts.operand(at), formals) {

@@ -6,9 +6,9 @@ ghost use Rattle.entries.specs.Parts.{entries_from};
 ghost use Rattle.reader.specs.Definition.{checked_definition, DefinitionsHold};
 
 use entries::checked::Extent;
-use entries::kind::Kind;
 use entries::parts::EntryParts;
 use entries::refusal::{Refused, TableRefusal};
+use entries::table_kind::TableKind;
 use entries::{expression, scope};
 use job::bounds::{DEPTH_LIMIT, MOST_DEFINITIONS, PARAMETER_LIMIT};
 
@@ -23,7 +23,7 @@ fn check_definition(parts: EntryParts, at: usize) -> Result<Extent, Refused>
             entry: at,
         });
     }
-    let Kind::Definition = parts.kind(at)? else {
+    let TableKind::Definition = parts.kind_at(at)? else {
         return Err(Refused {
             why: TableRefusal::Kind,
             entry: at,

@@ -31,7 +31,7 @@ slot-past bs x long l =
     sym (ap is_bound (get_or-eq_default bs empty m))
 
 -- a parameter's two words
-module _ (bs : List Bind) (k w : ℕ) where
+module _ (bs : List Slot) (k w : ℕ) where
   pub bound-param : k ≡ 7 → is_bound (slot_at bs w) ≡ not_empty bs (param_of k w)
   unfolding param_of not_empty
   bound-param e = rw (eq-eqb k 7 e, param_of)
@@ -41,10 +41,10 @@ module _ (bs : List Bind) (k w : ℕ) where
   free-param f = rw (ne_eqb k 7 f, param_of)
 
 -- the first c of the pairs of words are c parameters, or as many as there are
-abbrev pub pair_bound : List Bind → List ℕ → Bool
+abbrev pub pair_bound : List Slot → List ℕ → Bool
 pair_bound bs r = not_empty bs (param_of (get_or r 0 0) (get_or r 1 0))
 
-pub params-bound : (bs : List Bind) (n c : ℕ) (ws : List ℕ) → length ws ≡ 2 * n
+pub params-bound : (bs : List Slot) (n c : ℕ) (ws : List ℕ) → length ws ≡ 2 * n
     → list_all (pair_bound bs) (take c (words_in_rows 2 n ws)) ≡ for_all (not_empty bs) (params_from c ws)
 unfolding words_in_rows params_from for_all ◌and◌
 params-bound bs zero zero ws l = refl

@@ -16,10 +16,8 @@ use Rattle.model.specs.declared.cell.Cell.{Cell}
 use Rattle.model.specs.declared.record.Machine.{Machine}
 use Rattle.model.specs.declared.token.Token.{Token}
 use Rattle.model.proofs.Machine.Blanking.{length-kept, kept-marked, kept_free, kept-cases}
-use Rattle.record.proofs.TokenRow.{put_self}
-use Rattle.record.proofs.CellRow.{put_self as put-cell-self}
 use Rattle.record.specs.Changes.{store_cell}
-use Rattle.reach.specs.Marks.{BlankFrom, swept_token, swept_cell, tokens_swept, cells_swept}
+use Rattle.reach.specs.Marks.{BlankFrom, tokens_swept, cells_swept}
 use Rattle.reach.proofs.ListLoops.{steady}
 use Rattle.job.proofs.Lists.{get_d_any}
 
@@ -70,7 +68,7 @@ module _ {A : Type 0} (blank : A) (marks : List Bool) (xs : List A) where
           ∙ ap held (sym (kept_free blank marks xs i (mark-at false e)))
           ∙ sym partly-next
 
-      idle : get_or xs i blank ≡ blank → partly i ≡ partly (i + 1)
+      pub idle : get_or xs i blank ≡ blank → partly i ≡ partly (i + 1)
       idle b = partly-held ∙ ap held (b ∙ sym (kept-blank i b)) ∙ sym partly-next
 
   module _ (size : ℕ) (wide : length marks ≡ size) (long : length xs ≡ size) where
@@ -92,44 +90,23 @@ tokens_kept marks m i = with_tables (partly blank_token marks m.tokens i) m.cell
 abbrev pub cells_kept : List Bool → Machine → ℕ → Machine
 cells_kept marks m i = with_tables m.tokens (partly blank_cell marks m.cells i) m
 
--- a row's turn: it is in use, it is made blank, or it was blank before
-module _ (m : Machine) (p : ℕ) (used : Bool) where
-  pub token-used : used ≡ true → m ≡ swept_token p used m
-  unfolding swept_token
-  token-used e = rw e
-
-  pub token-blanked : used ≡ false → put p blank_token m ≡ swept_token p used m
-  unfolding swept_token
-  token-blanked e = rw e
-
-  pub token-vacant : used ≡ false → token_at m.tokens p ≡ blank_token → m ≡ swept_token p used m
-  token-vacant e f = sym (put_self m p) ∙ ap (λ t. put p t m) f ∙ token-blanked e
-
-  pub cell-used : used ≡ true → m ≡ swept_cell p used m
-  unfolding swept_cell
-  cell-used e = rw e
-
-  pub cell-blanked : used ≡ false → store_cell p blank_cell m ≡ swept_cell p used m
-  unfolding swept_cell
-  cell-blanked e = rw e
-
-  pub cell-vacant : used ≡ false → cell_at m.cells p ≡ blank_cell → m ≡ swept_cell p used m
-  cell-vacant e f = sym (put-cell-self m p) ∙ ap (λ k. store_cell p k m) f ∙ cell-blanked e
-
 module _ (marks : List Bool) (m : Machine) where
   pub tokens-first : m ≡ tokens_kept marks m 0
   unfolding with_tables
   tokens-first = refl
 
   module _ (i : ℕ) (wide : length marks ≡ 64) (long : length m.tokens ≡ 64) where
-    pub token-there : i < 64 → token_at (tokens_kept marks m i).tokens i ≡ token_at m.tokens i
-    unfolding with_tables token_at
-    token-there h = partly-at blank_token marks m.tokens 64 i wide long h
+    module _ (h : i < 64) where
+      pub tokens-keep : get_or marks i false ≡ true → tokens_kept marks m i ≡ tokens_kept marks m (i + 1)
+      tokens-keep e = ap (λ ts. with_tables ts m.cells m) (keeps blank_token marks m.tokens 64 i wide long h e)
 
-    pub tokens-next : (x : Bool) → i < 64 → get_or marks i false ≡ x → swept_token i x (tokens_kept marks m i) ≡ tokens_kept marks m (i + 1)
-    unfolding swept_token put with_tables
-    tokens-next true h e = ap (λ ts. with_tables ts m.cells m) (keeps blank_token marks m.tokens 64 i wide long h e)
-    tokens-next false h e = ap (λ ts. with_tables ts m.cells m) (blanks blank_token marks m.tokens 64 i wide long h e)
+      pub tokens-idle : token_at m.tokens i ≡ blank_token → tokens_kept marks m i ≡ tokens_kept marks m (i + 1)
+      unfolding token_at
+      tokens-idle e = ap (λ ts. with_tables ts m.cells m) (idle blank_token marks m.tokens 64 i wide long h e)
+
+      pub tokens-blank : get_or marks i false ≡ false → put i blank_token (tokens_kept marks m i) ≡ tokens_kept marks m (i + 1)
+      unfolding put with_tables
+      tokens-blank e = ap (λ ts. with_tables ts m.cells m) (blanks blank_token marks m.tokens 64 i wide long h e)
 
     pub tokens-last : i ≤ 64 → BlankFrom m i → tokens_kept marks m i ≡ with_tables (rest_blanked blank_token marks m.tokens) m.cells m
     unfolding token_at
@@ -140,14 +117,17 @@ module _ (marks : List Bool) (m : Machine) where
   cells-first = refl
 
   module _ (i : ℕ) (wide : length marks ≡ 32) (long : length m.cells ≡ 32) where
-    pub cell-there : i < 32 → cell_at (cells_kept marks m i).cells i ≡ cell_at m.cells i
-    unfolding with_tables cell_at
-    cell-there h = partly-at blank_cell marks m.cells 32 i wide long h
+    module _ (h : i < 32) where
+      pub cells-keep : get_or marks i false ≡ true → cells_kept marks m i ≡ cells_kept marks m (i + 1)
+      cells-keep e = ap (λ cs. with_tables m.tokens cs m) (keeps blank_cell marks m.cells 32 i wide long h e)
 
-    pub cells-next : (x : Bool) → i < 32 → get_or marks i false ≡ x → swept_cell i x (cells_kept marks m i) ≡ cells_kept marks m (i + 1)
-    unfolding swept_cell with_tables
-    cells-next true h e = ap (λ cs. with_tables m.tokens cs m) (keeps blank_cell marks m.cells 32 i wide long h e)
-    cells-next false h e = ap (λ cs. with_tables m.tokens cs m) (blanks blank_cell marks m.cells 32 i wide long h e)
+      pub cells-idle : cell_at m.cells i ≡ blank_cell → cells_kept marks m i ≡ cells_kept marks m (i + 1)
+      unfolding cell_at
+      cells-idle e = ap (λ cs. with_tables m.tokens cs m) (idle blank_cell marks m.cells 32 i wide long h e)
+
+      pub cells-blank : get_or marks i false ≡ false → store_cell i blank_cell (cells_kept marks m i) ≡ cells_kept marks m (i + 1)
+      unfolding with_tables
+      cells-blank e = ap (λ cs. with_tables m.tokens cs m) (blanks blank_cell marks m.cells 32 i wide long h e)
 
     pub cells-last : i ≤ 32 → ((k : ℕ) → i ≤ k → k < 32 → cell_at m.cells k ≡ blank_cell)
         → cells_kept marks m i ≡ with_tables m.tokens (rest_blanked blank_cell marks m.cells) m

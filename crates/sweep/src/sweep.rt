@@ -1,11 +1,11 @@
 // "The rest is blank after each accepted call." What was not marked is blank already.
-ghost use Rattle.std.specs.Prelude.{◌≡◌, false, ◌<◌, ◌≤◌, length};
+ghost use Rattle.std.specs.Prelude.{◌≡◌, true, false, ℕ, ◌+◌, ◌<◌, ◌≤◌, length, get_or};
 ghost use Rattle.model.specs.Machine.Blank.{blank_token, blank_cell, token_at, cell_at};
 ghost use Rattle.model.specs.Machine.InUse.{used_cells, rest_blanked, sweep};
 ghost use Rattle.model.specs.Machine.Update.{with_tables};
 ghost use Rattle.model.specs.declared.record.Machine.{Machine};
 ghost use Rattle.record.specs.Holds.{Holds};
-ghost use Rattle.reach.specs.Marks.{MarksOf, Vacant, FreeTokens, FreeCells, UnmarkedFrom, BlankFrom, swept_token, swept_cell, cells_swept};
+ghost use Rattle.reach.specs.Marks.{MarksOf, Vacant, FreeTokens, FreeCells, UnmarkedFrom, BlankFrom, cells_swept};
 
 use model::record::Machine;
 use reach::marks::{mark_cells, mark_tokens, marked_end};
@@ -13,31 +13,27 @@ use reach::used::Marks;
 use record::cell::put_unset;
 use record::token::blank;
 
-// A token's row that was in use and is no more.
-fn keep_token(w: &mut [u32; Machine::WORDS], p: usize, was: bool, used: bool)
-    requires { p < 64 }
-    ensures { (m : Machine) → Holds w.old m → (was ≡ false → token_at m.tokens p ≡ blank_token)
-        → Holds w.new (swept_token p used m) }
+// Makes each row before the end blank that was in use and is no more: `stage` is the record before each row's turn.
+fn keep_rows<B: Fn(&mut [u32; Machine::WORDS], usize)>(
+    w: &mut [u32; Machine::WORDS],
+    marks: &[bool],
+    used: &[bool],
+    end: usize,
+    make_blank: B,
+)
+    requires upper_bound { (end ≤ length marks.now) × (end ≤ length used.now) }
+    requires callable { (v : _) (p : ℕ) → p < end → B.pre make_blank v p }
+    ensures { (stage : ℕ → Machine) → Holds w.old (stage 0)
+        → ((p : ℕ) → p < end → get_or used.now p false ≡ true → stage p ≡ stage (p + 1))
+        → ((p : ℕ) → p < end → get_or marks.now p false ≡ false → stage p ≡ stage (p + 1))
+        → ((p : ℕ) (v v′ : _) → p < end → get_or used.now p false ≡ false → Holds v.now (stage p) → B.post make_blank v p tt v′
+        → Holds v′.now (stage (p + 1)))
+        → Holds w.new (stage end) }
 {
-    if used {
-        return;
-    }
-    if was {
-        blank(w, p);
-    }
-}
-
-// The same of a cell's.
-fn keep_cell(w: &mut [u32; Machine::WORDS], c: usize, was: bool, used: bool)
-    requires { c < 32 }
-    ensures { (m : Machine) → Holds w.old m → (was ≡ false → cell_at m.cells c ≡ blank_cell)
-        → Holds w.new (swept_cell c used m) }
-{
-    if used {
-        return;
-    }
-    if was {
-        put_unset(w, c, 0);
+    for p in 0..end {
+        if marks[p] & !used[p] {
+            make_blank(w, p);
+        }
     }
 }
 
@@ -47,9 +43,7 @@ fn keep_tokens(w: &mut [u32; Machine::WORDS], marks: &[bool], used: &[bool], end
     ensures { (m : Machine) → Holds w.old m → FreeTokens m marks.now
         → Holds w.new (with_tables (rest_blanked blank_token used.now m.tokens) m.cells m) }
 {
-    for p in 0..end {
-        keep_token(w, p, marks[p], used[p]);
-    }
+    keep_rows(w, marks, used, end, blank);
 }
 
 // The same of the cells', which the marks then say.
@@ -59,9 +53,7 @@ fn keep_cells(w: &mut [u32; Machine::WORDS], marks: &mut [bool], used: &[bool], 
         × ((m : Machine) → Holds w.old m → FreeCells m marks.old
         → Holds w.new (with_tables m.tokens (rest_blanked blank_cell used.now m.cells) m)) }
 {
-    for c in 0..end {
-        keep_cell(w, c, marks[c], used[c]);
-    }
+    keep_rows(w, marks, used, end, |w, c| put_unset(w, c, 0));
     marks.copy_from_slice(used);
 }
 

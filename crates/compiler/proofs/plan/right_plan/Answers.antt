@@ -1,6 +1,6 @@
 -- `plan::right_plan` meets its contract: a law for each kind of join. Assumes nothing.
 use Rattle.job.specs.Entry.{is_binder}
-use Rattle.entries.specs.Kind.{join_meant}
+use Rattle.entries.specs.NamedKind.{join_meant}
 use Rattle.compiler.proofs.PlanLaws.{right-par, right-seq, right-prune}
 use Rattle.compiler.proofs.plan.right_plan.Goals as goal
 

@@ -1,6 +1,6 @@
 -- `expression::sides_of` meets its contract: there is a law for each kind of join. Assumes nothing.
 use Rattle.job.specs.Entry.{is_binder}
-use Rattle.entries.specs.Kind.{join_meant}
+use Rattle.entries.specs.NamedKind.{join_meant}
 use Rattle.entries.proofs.ExpressionSides.{sides-par, sides-seq, sides-prune}
 use Rattle.entries.proofs.expression.sides_of.Goals as goal
 

@@ -89,7 +89,7 @@ unfolding told
 returns-then-step_turn c =
     let left = rw c.loop-left.invariant.from at c.step_turn.ensures.leaves in
     let from = c.step_turn.ensures.from ∙ c.loop-left.invariant.from in
-    let shown = shows-as (text-one _) (rw from at c.show_line.ensures.shows_bytes) in
+    let shown = shows-as (text-one _) (rw from at c.show_line.ensures.shows.shows_bytes) in
     let whole =
     lent-ends _ _ _ _ c.loop-left.invariant.lent _ c.queued.ensures c.if-queued-eq0.false c.if-steps-eq-STEPS.false _ _ left
     c.if-step_turn.true shown in

@@ -23,5 +23,5 @@ returns-then-number-ne0-clause-leaves c = λ m dag shared lawful one e.
     turned-shows
     (turn-delivers _ _ _ _ _ _ c.deliver.ensures.gives m dag _ shared lawful
     (λ i from to. free-token lawful i (none i from (omega arith))) one e)
-    (over-empty _ e _) (shows-as (refused-line c.deliver-number.ensures.delivery_number c.if-number-ne0.true) line.shows_bytes)
+    (over-empty _ e _) (shows-as (refused-line c.deliver-number.ensures.delivery_number c.if-number-ne0.true) line.shows.shows_bytes)
     line.upper_bound

@@ -14,7 +14,7 @@ pub returns-clause-leaves : goal.returns-clause-leaves
 returns-clause-leaves c = λ m rest at t one.
     turned-shows (turn-steps m rest at t (c.step-report.ensures m t one))
     (over-ready _ (λ z. let some = t.queued in absurd (omega arith)) _ _ c.is_refused.ensures)
-    c.show_reply.ensures.shows_bytes c.show_reply.ensures.upper_bound
+    c.show_reply.ensures.shows.shows_bytes c.show_reply.ensures.upper_bound
 
 pub returns-then-not-has_line-clause-leaves : goal.returns-then-not-has_line-clause-leaves
 returns-then-not-has_line-clause-leaves c = λ m rest at t one.

@@ -10,22 +10,22 @@ use Rattle.reader.proofs.definition.check_definition.Goals as goal
 pub returns-then-len-at : goal.returns-then-len-at
 returns-then-len-at c = search definition-end
 
-pub returns-in_err-kind : goal.returns-in_err-kind
-returns-in_err-kind c =
+pub returns-in_err-kind_at : goal.returns-in_err-kind_at
+returns-in_err-kind_at c =
     let p = err_from_is_err_and c.from_residual.result c.from_residual.ensures.1 in
-    let h = c.in_err-kind.was in
+    let h = c.in_err-kind_at.was in
     rw (p.1, p.2) (search definition-unknown)
 
 pub returns-in_default : goal.returns-in_default
-returns-in_default c = let h = c.in_ok-kind.was in search (definition-other, c.in_default.not-Definition)
+returns-in_default c = let h = c.in_ok-kind_at.was in search (definition-other, c.in_default.not-Definition)
 
 pub returns-then-formals-gt-PARAMETER_LIMIT : goal.returns-then-formals-gt-PARAMETER_LIMIT
-returns-then-formals-gt-PARAMETER_LIMIT c = let h = c.in_ok-kind.was in search definition-row
+returns-then-formals-gt-PARAMETER_LIMIT c = let h = c.in_ok-kind_at.was in search definition-row
 
 pub returns-in_err-body : goal.returns-in_err-body
 returns-in_err-body c =
     let p = err_from_is_err_and c.from_residual-in_err-body.result c.from_residual-in_err-body.ensures.1 in
-    let h = c.in_ok-kind.was in
+    let h = c.in_ok-kind_at.was in
     let q = c.check_expression.ensures _ c.of_formals-scope.ensures in
     let d = c.in_err-body.was in
     rw (p.1, p.2) (search body-refused)
@@ -38,7 +38,7 @@ overflow_add-result c =
 
 pub returns : goal.returns
 returns c =
-    let h = c.in_ok-kind.was in
+    let h = c.in_ok-kind_at.was in
     let q = c.check_expression.ensures _ c.of_formals-scope.ensures in
     let d = c.in_ok-body.was in
     search body-read

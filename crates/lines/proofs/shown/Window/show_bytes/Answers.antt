@@ -1,5 +1,7 @@
 -- `Window::show_bytes` meets its contract. Assumes nothing.
-use mathlib.Core.Path.{refl}
+use mathlib.Core.Path.{◌≡◌, refl, ◌∙◌, ap}
+use lib.ListN.{take}
+use lib.Seq.{take_all}
 use borrow.Author.Rules.{rules}
 use native.Mathlib.Omega.{arith}
 use Rattle.lines.specs.Shown.{showing}
@@ -19,4 +21,20 @@ loop-byte-preserved c =
       from = search rules;
       total = omega arith;
       shown = line-more _ _ _ _ _ _ _ c.loop-byte-test.true now.shown (rw (now.from, now.total) at next.output);
+    }
+
+pub returns : goal.returns
+returns c =
+    let now = c.loop-byte.invariant in
+    let whole : take c.loop-byte.byte-index c.args.line.now ≡ c.args.line.now = take_all _ _ c.loop-byte-test.false in
+    let end = c.loop-byte-test.false in
+    let within = c.loop-byte.auto.byte-index-end in
+    let total = now.total in
+    record {
+      same_reference = now.same_reference;
+      from = now.from;
+      shows_bytes = record {
+        stored = now.shown ∙ ap (showing c.args.self.now.output.now c.args.self.now.from c.args.self.now.total) whole;
+        behind = omega arith;
+      };
     }

@@ -3,7 +3,7 @@ use mathlib.Core.Path.{◌∙◌, ap}
 use borrow.Author.Rules.{rules}
 use Rattle.model.specs.Output.Line.{text_of_all, short}
 use Rattle.lines.specs.LineTold.{told}
-use Rattle.lines.proofs.ShownBytes.{shows_then, shows-as}
+use Rattle.lines.proofs.WindowLaws.{window-as, window-then}
 use Rattle.lines.proofs.LineParts.{text-first, text-one}
 use Rattle.lines.proofs.LastLines.{last_none, last_some}
 use Rattle.lines.proofs.shown.Window.show_last.Goals as goal
@@ -15,13 +15,13 @@ show_line-requires-2 c = elim c.if-left-ne0.branch [
   | else-left-ne0 w ↦ rw w.self-is (search rules)
 ]
 
-pub returns-clause-shows_bytes : goal.returns-clause-shows_bytes
+pub returns : goal.returns
 unfolding told
-returns-clause-shows_bytes c =
-    let last = shows-as (text-one _) c.show_line-2.ensures.shows_bytes in
+returns c =
+    let last = window-as (text-one _) c.show_line-2.ensures.shows in
     elim c.if-left-ne0.branch [
       | then-left-ne0 w ↦
-          shows-as (text-first short _ ∙ ap text_of_all (last_some _ _ w.if-left-ne0.true))
-          (shows_then w.show_line.ensures.shows_bytes (rw w.show_line.ensures.from at (rw w.self-is at last)))
-      | else-left-ne0 w ↦ shows-as (ap text_of_all (last_none _ _ w.if-left-ne0.false)) (rw w.self-is at last)
+          window-as (text-first short _ ∙ ap text_of_all (last_some _ _ w.if-left-ne0.true))
+          (window-then w.show_line.ensures.shows (rw w.self-is at last))
+      | else-left-ne0 w ↦ window-as (ap text_of_all (last_none _ _ w.if-left-ne0.false)) (rw w.self-is at last)
     ]

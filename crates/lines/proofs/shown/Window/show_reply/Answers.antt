@@ -8,7 +8,7 @@ use native.Mathlib.Omega.{arith}
 use lib.ListN.{length-take}
 use borrow.Author.Rules.{rules}
 use Rattle.lines.specs.LineTold.{told}
-use Rattle.lines.proofs.ShownBytes.{shows-as, shows-none}
+use Rattle.lines.proofs.WindowLaws.{window-as, window-none}
 use Rattle.lines.proofs.ReportLines.{tells-nothing, tells-publish, tells-call, tells-refusal}
 use Rattle.lines.proofs.shown.Window.show_reply.Goals as goal
 
@@ -18,22 +18,22 @@ show_line-requires-in-Called c =
     let size = length-take c.min-most.result c.args.values in
     (search rules, omega arith)
 
-pub returns-in-Done-clause-shows_bytes : goal.returns-in-Done-clause-shows_bytes
-returns-in-Done-clause-shows_bytes c = shows-as (tells-nothing _ _ c.in-Done.is) (shows-none _ _ _)
+pub returns-in-Done-clause-shows : goal.returns-in-Done-clause-shows
+returns-in-Done-clause-shows c = window-as (tells-nothing _ _ c.in-Done.is) (window-none _)
 
-pub returns-in-Published-clause-shows_bytes : goal.returns-in-Published-clause-shows_bytes
+pub returns-in-Published-clause-shows : goal.returns-in-Published-clause-shows
 unfolding told
-returns-in-Published-clause-shows_bytes c = let fits : SFits w32 c.in-Published.v = search rules in
-    let line = rw (to_z-of_z fits) at c.show_line.ensures.shows_bytes in
-    shows-as (tells-publish _ _ _ c.in-Published.is) line
+returns-in-Published-clause-shows c = let fits : SFits w32 c.in-Published.v = search rules in
+    let line = rw (to_z-of_z fits) at c.show_line.ensures.shows in
+    window-as (tells-publish _ _ _ c.in-Published.is) line
 
-pub returns-in-Called-clause-shows_bytes : goal.returns-in-Called-clause-shows_bytes
+pub returns-in-Called-clause-shows : goal.returns-in-Called-clause-shows
 unfolding told
-returns-in-Called-clause-shows_bytes c =
-    shows-as (tells-call _ _ _ _ _ _ (search rules) c.in-Called.is
-    (c.min-most.ensures ∙ ap (λ (n : ℕ). min n 4) c.from.ensures)) c.show_line-in-Called.ensures.shows_bytes
+returns-in-Called-clause-shows c =
+    window-as (tells-call _ _ _ _ _ _ (search rules) c.in-Called.is
+    (c.min-most.ensures ∙ ap (λ (n : ℕ). min n 4) c.from.ensures)) c.show_line-in-Called.ensures.shows
 
-pub returns-in-Refused-clause-shows_bytes : goal.returns-in-Refused-clause-shows_bytes
+pub returns-in-Refused-clause-shows : goal.returns-in-Refused-clause-shows
 unfolding told
-returns-in-Refused-clause-shows_bytes c =
-    shows-as (tells-refusal _ _ _ _ c.in-Refused.is c.from-in-Refused.ensures) c.show_line-in-Refused.ensures.shows_bytes
+returns-in-Refused-clause-shows c =
+    window-as (tells-refusal _ _ _ _ c.in-Refused.is c.from.ensures) c.show_line-in-Refused.ensures.shows

@@ -2,15 +2,15 @@
 use Rattle.std.specs.Prelude.{ℕ, Result, Ok, Err}
 use Rattle.job.specs.Syntax.{Join, par, seq, prune}
 use Rattle.job.specs.Entry.{EntryKind}
-use Rattle.entries.specs.declared.kind.JoinKind.{JoinKind}
-use Rattle.entries.specs.declared.kind.JoinKind.TheVariants as joins
-use Rattle.entries.specs.declared.kind.Kind.{Kind}
-use Rattle.entries.specs.declared.kind.Kind.TheVariants as kinds
+use Rattle.entries.specs.declared.table_kind.JoinKind.{JoinKind}
+use Rattle.entries.specs.declared.table_kind.JoinKind.TheVariants as joins
+use Rattle.entries.specs.declared.table_kind.TableKind.{TableKind}
+use Rattle.entries.specs.declared.table_kind.TableKind.TheVariants as kinds
 use Rattle.entries.specs.declared.refusal.TableRefusal.{TableRefusal}
 use Rattle.entries.specs.declared.refusal.TableRefusal.TheVariants as refusals
 
 -- the code's kind for one of the table's; 3, "kind unknown", for none
-unfoldable pub kind_named : EntryKind → Result Kind TableRefusal
+unfoldable pub kind_named : EntryKind → Result TableKind TableRefusal
 kind_named EntryKind.stop = Ok kinds.Stop
 kind_named EntryKind.site = Ok kinds.Site
 kind_named EntryKind.call = Ok kinds.Call
@@ -28,7 +28,7 @@ join_meant joins.Par = EntryKind.par
 join_meant joins.Seq = EntryKind.seq
 join_meant joins.Prune = EntryKind.prune
 
-unfoldable pub kind_meant : Kind → EntryKind
+unfoldable pub kind_meant : TableKind → EntryKind
 kind_meant kinds.Stop = EntryKind.stop
 kind_meant kinds.Site = EntryKind.site
 kind_meant kinds.Call = EntryKind.call
