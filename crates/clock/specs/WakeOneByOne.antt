@@ -1,5 +1,5 @@
 -- A clock move in the steps of the code: the first of those due earliest wakes, until none is due. Assumes nothing: these are definitions.
-use Rattle.std.specs.Prelude.{◌≡◌, ◌++◌, map, ℕ, ◌+◌, ◌<◌, ◌≤◌, pos, get_or, Option, MatchOption}
+use Rattle.std.specs.Prelude.{Some, ◌≡◌, ◌++◌, map, ℕ, ◌+◌, ◌<◌, ◌≤◌, pos, get_or, Option, MatchOption}
 use Rattle.job.specs.Test.{occurrences, once, without}
 use Rattle.model.specs.Machine.Blank.{token_at}
 use Rattle.model.specs.Machine.Clock.{woken_by, joining, staying}

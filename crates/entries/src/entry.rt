@@ -17,7 +17,7 @@ use job::site_parameters;
 fn four_bytes(a: u8, b: u8, c: u8, d: u8) -> u32
     ensures { result ≡ a + 256 * (b + 256 * (c + 256 * d)) }
 {
-    a as u32 + 256 * (b as u32 + 256 * (c as u32 + 256 * d as u32))
+    u32::from_le_bytes([a, b, c, d])
 }
 
 // The number that the four bytes from an index on are.

@@ -27,7 +27,8 @@ CountedOnce k m counts =
 abbrev pub AllCounted : Machine → Option OrderCounts → Type 0
 AllCounted m counts =
     MatchOption counts ((order_rule orders.queue m and order_rule orders.waits m and order_rule orders.timers m) ≡ false)
-    (λ c. CountedOnce orders.queue m (Some c.queue) × CountedOnce orders.waits m (Some c.waits) × CountedOnce orders.timers m (Some c.timers))
+    (λ c. CountedOnce orders.queue m (Some c.queue) × CountedOnce orders.waits m (Some c.waits)
+    × CountedOnce orders.timers m (Some c.timers))
 
 -- the queue names the ready ones, the wait order those that wait, the order of call those that are due later
 abbrev pub named_by_orders : (queue waits timers : List ℕ) → ℕ → Token → Bool

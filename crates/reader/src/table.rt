@@ -13,7 +13,7 @@ use job::bounds::{ENTRY_LIMIT, MOST_DEFINITIONS};
 pub fn half(low: u8, high: u8) -> usize
     ensures { (result ≡ low + 256 * high) × (result < 65536) }
 {
-    low as usize + 256 * high as usize
+    usize::from(u16::from_le_bytes([low, high]))
 }
 
 // Tests a table: the number of its dag's nodes. The numbers of nodes of the definitions that are read before the first refusal are kept.

@@ -28,16 +28,9 @@ module _ {whole : List ℕ → List ℕ} {at : ℕ} (s : Stands whole at) (x : L
       ∙ ap (λ r. s.before ++ r) (set-append_left x _ i v (omega (arith, l)))
       ∙ sym (s.split (set x i v))
 
-  -- the part is lent and written
+  -- the part is lent
   pub part-is : take n (drop at (whole x)) ≡ x
   part-is =
       ap (λ r. take n (drop at r)) (s.split x)
       ∙ ap (take n) (drop_at s.before _ at s.long)
       ∙ take_at x s.after n l
-
-  pub part-lent : (y : List ℕ) → take at (whole x) ++ (y ++ drop n (drop at (whole x))) ≡ whole y
-  part-lent y =
-      ap (λ r. take at r ++ (y ++ drop n (drop at r))) (s.split x)
-      ∙ ap₂ (λ a b. a ++ (y ++ drop n b)) (take_at s.before _ at s.long) (drop_at s.before _ at s.long)
-      ∙ ap (λ b. s.before ++ (y ++ b)) (drop_at x s.after n l)
-      ∙ sym (s.split y)

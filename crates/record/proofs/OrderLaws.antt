@@ -15,7 +15,8 @@ use Rattle.model.specs.declared.token.State.{State}
 use Rattle.record.specs.Layout.{state_kind, words_of, count_words, clock_words, parts}
 use Rattle.record.specs.Holds.{Codes, Holds}
 use Rattle.record.specs.Changes.{dequeued}
-use Rattle.record.specs.OrderWords.{Which, queue, waits, timers, first_at, count_at, state_of, in_state, names_of, array_of, count_of, with_names, joined}
+use Rattle.record.specs.OrderWords.{Which, queue, waits, timers, first_at, count_at, state_of, in_state}
+use Rattle.record.specs.OrderWords.{names_of, array_of, count_of, with_names, joined}
 use Rattle.orders.specs.NamesRetained.{marked_of, Retained}
 use Rattle.orders.proofs.NamesRetained.{select_short}
 use Rattle.orders.proofs.NamesPadded.{padded-long, zero-padded, padded-more, put-behind, length_without}
@@ -125,7 +126,8 @@ module _ {ws names array : List ℕ} {n at counted : ℕ} {changed : List ℕ �
       let same : length after ≡ n =
       omega (arith, length-append (without index names) (p ∷ []), length_without index names (omega arith)) in
       subst (λ r. Holds r (changed after))
-      (sym (others i x after e (ap₂ (λ r k. r ++ replicate (64 - k) 0) (f ∙ ap (λ r. without index r ++ (p ∷ [])) (lent i e)) (e ∙ sym same))
+      (sym (others i x after e
+      (ap₂ (λ r k. r ++ replicate (64 - k) 0) (f ∙ ap (λ r. without index r ++ (p ∷ [])) (lent i e)) (e ∙ sym same))
       ∙ ap (o.whole (padded 0 64 after)) (sym same)))
       (o.holds after (omega (arith, o.fits)))
 
@@ -138,7 +140,8 @@ module _ {ws names array : List ℕ} {n at counted : ℕ} {changed : List ℕ �
       let size : length names ≡ i = sym (e ∙ o.number) in
       names-put kept (padded 0 64 kept) v (omega (arith, few, o.fits)) refl (r.number ∙ ap (λ xs. length (marked_of marks xs)) (lent i e))
       (others i x kept e
-      (ap (λ y. y ++ replicate (64 - i) 0) (r.array ∙ ap (λ xs. padded 0 (length xs) (marked_of marks xs)) (lent i e) ∙ ap (λ k. padded 0 k kept) size)
+      (ap (λ y. y ++ replicate (64 - i) 0)
+      (r.array ∙ ap (λ xs. padded 0 (length xs) (marked_of marks xs)) (lent i e) ∙ ap (λ k. padded 0 k kept) size)
       ∙ padded-more kept i 64 (omega (arith, few)) (omega (arith, o.fits))))
 
 module _ {ws : List ℕ} {m : Machine} (h : Holds ws m) where

@@ -103,8 +103,8 @@ pub fn place_at<O: Order>(w: &[u32; Machine::WORDS], i: usize) -> u32
     w[O::START + i]
 }
 
-// "A ready token goes to the back of the queue." So does one that waits or is due later, of its order. Each of these is named once, so there
-// is room; a full order stays as it is.
+// "A ready token goes to the back of the queue." So does one that waits or is due later, of its order. A token is named once, so there is
+// room; a full order stays as it is.
 pub fn join<O: Order>(w: &mut [u32; Machine::WORDS], p: u32)
     ensures { (m : Machine) → Holds w.old m → count_of O.which m < 64 → Holds w.new (joined O.which p m) }
 {

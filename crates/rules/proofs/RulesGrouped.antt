@@ -49,7 +49,8 @@ module _ (d : Dag) (m : Machine) where
   dag-breaks e = rw e
 
   -- .. and each of the three orders
-  pub orders-break : (order_rule orders.queue m and order_rule orders.waits m and order_rule orders.timers m) ≡ false → false ≡ rules_hold paper d m
+  pub orders-break : (order_rule orders.queue m and order_rule orders.waits m and order_rule orders.timers m) ≡ false
+      → false ≡ rules_hold paper d m
   orders-break f = sym (false_of (rules_hold paper d m) (λ e.
       let each = each-rule-holds paper d m e in
       clash (and_both each.queue (and_both each.waits each.timers)) f))

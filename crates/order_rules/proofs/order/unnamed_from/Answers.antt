@@ -30,4 +30,5 @@ pub returns : goal.returns
 returns c = let args = c.args in
     let last = c.loop-i in
     let e : last.i ≡ 64 = omega arith in
-    last.invariant ∙ ap (λ i. each_from (unnamed args.counts.now.queue args.counts.now.waits args.counts.now.timers) args.from (i - args.from)) e
+    let counts = args.counts.now in
+    last.invariant ∙ ap (λ i. each_from (unnamed counts.queue counts.waits counts.timers) args.from (i - args.from)) e

@@ -4,7 +4,8 @@ use mathlib.Core.Path.{◌≡◌, ◌∙◌}
 use native.Mathlib.Omega.{arith}
 use Rattle.record.proofs.OrderLaws.{count-read, count-fits, replaced-put}
 use Rattle.record.proofs.order.replace.Goals as goal
-use Rattle.record.proofs.order.replace.Goals.{else-count-le-TOKENS-via-then-count-le-TOKENS+else-index-count, else-count-le-TOKENS-via-else-count-le-TOKENS}
+use Rattle.record.proofs.order.replace.Goals.{else-count-le-TOKENS-via-then-count-le-TOKENS+else-index-count}
+use Rattle.record.proofs.order.replace.Goals.{else-count-le-TOKENS-via-else-count-le-TOKENS}
 
 pub returns-then-index-count : goal.returns-then-index-count
 returns-then-index-count g c = let o = g.O.Order in

@@ -14,5 +14,6 @@ abbrev pub invariant-loop-i : goal.invariant-loop-i
 invariant-loop-i l = (l.count ≤ l.i)
     × (length l.handles ≡ 64)
     × (l.ok ≡ true → (p : ℕ) → p < l.i → token_coded l.w p ≡ true)
-    × ((m : Machine) → ValuesFit l.w m → length l.used ≡ 64 → l.ok ≡ seen (dag_of l.dag) m l.used l.counts.queue l.counts.waits l.counts.timers l.i)
+    × ((m : Machine) → ValuesFit l.w m → length l.used ≡ 64
+    → l.ok ≡ seen (dag_of l.dag) m l.used l.counts.queue l.counts.waits l.counts.timers l.i)
     × ((m : Machine) → ValuesFit l.w m → l.ok ≡ true → take l.count l.handles ≡ open_handles (take l.i m.tokens))
