@@ -32,7 +32,7 @@ pub none_read : (bs : List Slot) → replicate 8 (record { kind = 0; number = 0 
 none_read bs = ap (map slot_words) (none-bound bs [])
 
 -- one more is read
-pub slot_read : {ss : List SlotWords} (bs : List Bind) {cs : List Bind} (i : ℕ) {s : SlotWords} (b : Bind) → ss ≡ map slot_words bs
+pub slot_read : {ss : List SlotWords} (bs : List Slot) {cs : List Slot} (i : ℕ) {s : SlotWords} (b : Slot) → ss ≡ map slot_words bs
     → s ≡ slot_words b → set bs i b ≡ cs → set ss i s ≡ map slot_words cs
 slot_read {ss} bs {cs} i b o e f =
     ap₂ (λ xs x. set xs i x) o e ∙ sym (map-set slot_words bs i b) ∙ ap (map slot_words) f

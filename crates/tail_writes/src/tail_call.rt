@@ -17,12 +17,7 @@ use record::token::{set_node, set_value};
 use writes::actor::Actor;
 
 // "with no value and only its formals bound": caller, cell and state stay.
-pub fn written(
-    w: &mut [u32; Machine::WORDS],
-    dag: &[u32; WORDS],
-    actor: Actor,
-    root: u32,
-)
+pub fn written(w: &mut [u32; Machine::WORDS], dag: &[u32; WORDS], actor: Actor, root: u32)
     requires { (actor.token < 64) × ParamsHold dag.now actor.row }
     ensures { let p = actor.token in (m : Machine) → Holds w.old m → actor.place < m.queued → (token_at m.tokens p).state ≡ states.Ready
         → Holds w.new

@@ -36,4 +36,4 @@ returns-in-Called-clause-shows c =
 pub returns-in-Refused-clause-shows : goal.returns-in-Refused-clause-shows
 unfolding told
 returns-in-Refused-clause-shows c =
-    window-as (tells-refusal _ _ _ _ c.in-Refused.is c.from.ensures) c.show_line-in-Refused.ensures.shows
+    window-as (tells-refusal _ _ _ _ c.in-Refused.is c.from-in-Refused.ensures) c.show_line-in-Refused.ensures.shows
