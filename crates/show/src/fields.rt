@@ -138,9 +138,9 @@ fn show_order(
 }
 
 fn orders(rt: &impl Print, w: &[u32; Machine::WORDS]) -> io::Result<()> {
-    show_order(rt, w, "queue", QUEUE_START, order::queued(w))?;
-    show_order(rt, w, "waits", WAITS_START, order::waiting(w))?;
-    show_order(rt, w, "timers", TIMERS_START, order::timed(w))
+    show_order(rt, w, "queue", QUEUE_START, order::count::<Queue>(w))?;
+    show_order(rt, w, "waits", WAITS_START, order::count::<WaitOrder>(w))?;
+    show_order(rt, w, "timers", TIMERS_START, order::count::<CallOrder>(w))
 }
 
 fn counts(rt: &impl Print, w: &[u32; Machine::WORDS]) -> io::Result<()> {

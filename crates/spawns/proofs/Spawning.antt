@@ -49,9 +49,8 @@ pub gives_made : {x : Outcome} {m : Machine} (o : Machine) {ws : List ℕ} {used
 gives_made o r e f h k =
     gives_whole o replies.Done [] r e (ap (λ (y : Report). y.reply) f) (ap (λ (y : Report). y.values) f) h k.whole (λ framed. k)
 
-module _ {ws dag : List ℕ} {used cells : List Bool} {place p : ℕ} {m : Machine} (a : Taking ws used cells dag place p m)
-    {o : Option ℕ} {new last : ℕ} (next : o ≡ next_free 64 used last)
-    (given : last ≡ m.lasttoken) (is : o ≡ Some new) (inside : new < 64) where
+module _ {ws dag : List ℕ} {used : Marks} {actor : Actor} {m : Machine} (a : Taking ws used dag actor m) {o : Option ℕ} {new last : ℕ}
+    (next : o ≡ next_free 64 used.tokens last) (given : last ≡ m.lasttoken) (is : o ≡ Some new) (inside : new < 64) where
   room : (has_token_place paper m ≡ true) × (new ≡ next_place (tokens_used m) m.lasttoken)
   room = token-room a.lawful next given is
 
@@ -84,12 +83,11 @@ module _ (dag : List ℕ) (actor : Actor) (m : Machine) where
   abbrev word : ℕ → ℕ
   word i = get_or dag (actor.row + i) 0
 
-  module _ {ws : List ℕ} {used cells : List Bool} (a : Acting ws used cells dag place p at 3 m) {o : Option ℕ} {last : ℕ}
-      (next : o ≡ next_free 64 used last) (given : last ≡ m.lasttoken) where
-    pub fork-gives : {after : List ℕ} {new : ℕ} (r : Report) (left right : ℕ) → left ≡ word 1 → right ≡ word 2 → o ≡ Some new
-        → r ≡ plain replies.Done
-        → Holds after (enqueue new (enqueue p (new_token new (with_node right t) (put p (with_node left t) (dequeued m place)))))
-        → Gives (Step.step paper (dag_of dag) m place) m after (set used new true) cells r
+  module _ {ws : List ℕ} {used : Marks} (a : Acting ws used dag actor 3 m) {o : Option ℕ} {last : ℕ}
+      (next : o ≡ next_free 64 used.tokens last) (given : last ≡ m.lasttoken) where
+    pub fork-gives : {after : List ℕ} {new : ℕ} (r : Report) (left right : ℕ) → left ≡ word 1 → right ≡ word 2 → o ≡ Some new → r ≡ plain replies.Done
+        → Holds after (enqueue new (enqueue actor.token (new_token new (with_node right t) (put actor.token (with_node left t) (dequeued m actor.place)))))
+        → Gives (Step.step paper (dag_of dag) m actor.place) m after (record { tokens = set used.tokens new true; cells = used.cells }) r
     fork-gives {after} {new} r left right el er l e h₀ =
         let h =
         subst₂ (λ i j. Holds after (enqueue new (enqueue actor.token (new_token new (with_node j t) (put actor.token (with_node i t) (dequeued m actor.place))))))
@@ -110,11 +108,10 @@ module _ (dag : List ℕ) (actor : Actor) (m : Machine) where
         gives-refused 10 r a.taking.lawful (fork-full dag actor m (token-full a.taking.lawful next given l) a)
         e
 
-  module _ {ws : List ℕ} {used cells : List Bool} (a : Acting ws used cells dag place p at 2 m)
-      (is : is_tail (dag_of dag) (word 2) ≡ false) {o : Option ℕ} {last : ℕ} (next : o ≡ next_free 64 used last)
-      (given : last ≡ m.lasttoken) where
-    pub call-gives : {after : List ℕ} {new : ℕ} (r : Report) (root next : ℕ) → root ≡ (body_at (dag_of dag) (word 1)).root → next ≡ word 2
-        → o ≡ Some new → r ≡ plain replies.Done
+  module _ {ws : List ℕ} {used : Marks} (a : Acting ws used dag actor 2 m)
+      (is : is_tail (dag_of dag) (word 2) ≡ false) {o : Option ℕ} {last : ℕ} (next : o ≡ next_free 64 used.tokens last) (given : last ≡ m.lasttoken) where
+    pub call-gives : {after : List ℕ} {new : ℕ} (r : Report) (root next : ℕ) → root ≡ (body_at (dag_of dag) (word 1)).root → next ≡ word 2 → o ≡ Some new
+        → r ≡ plain replies.Done
         → Holds after
         (enqueue new (new_token new (callee actor.token t.cell t.binds root (params_at dag actor.row))
         (put actor.token (with_node next (with_state states.Frame t)) (dequeued m actor.place))))
@@ -165,12 +162,11 @@ module _ (dag : List ℕ) (actor : Actor) (m : Machine) where
           (new_cell c (unset_cell t.cell)
           (new_token new (in_cell c (with_node right t)) (put actor.token (with_node left (with_binding x (slots.Cell c) t)) (dequeued m actor.place)))))
 
-      pub where-gives : {after : List ℕ} {new c : ℕ} (r : Report) (x left right : ℕ) → x ≡ word 3 → left ≡ word 1 → right ≡ word 2
-          → o ≡ Some new → oc ≡ Some c → r ≡ plain replies.Done → Holds after (splits new c x left right)
-          → Gives (Step.step paper (dag_of dag) m place) m after (set used new true) (set cells c true) r
+      pub where-gives : {after : List ℕ} {new c : ℕ} (r : Report) (x left right : ℕ) → x ≡ word 3 → left ≡ word 1 → right ≡ word 2 → o ≡ Some new → oc ≡ Some c
+          → r ≡ plain replies.Done → Holds after (splits new c x left right)
+          → Gives (Step.step paper (dag_of dag) m actor.place) m after (record { tokens = set used.tokens new true; cells = set used.cells c true }) r
       where-gives {after} {new} {c} r x left right ex el er l n e h₀ =
-          let h = subst (λ i. Holds after (splits new c i (word 1) (word 2))) ex
-          (subst₂ (λ i j. Holds after (splits new c x i j)) el er h₀) in
+          let h = subst (λ i. Holds after (splits new c i (word 1) (word 2))) ex (subst₂ (λ i j. Holds after (splits new c x i j)) el er h₀) in
           let y = token-room a.taking.lawful next given l in
           let z = cell_room a.taking.lawful nextc givenc n in
           let k = a.taking.lawful.marks in

@@ -29,7 +29,7 @@ pub returns-then-left-lt8 : goal.returns-then-left-lt8
 returns-then-left-lt8 c =
     let shown = rw c.loop-left.invariant.from at c.show_last.ensures.shows_bytes in
     let whole =
-    lent-last _ _ _ _ c.loop-left.invariant.lent _ c.queued.ensures c.if-queued-eq0.true c.if-left-lt8.true shown in
+    lent-last _ _ _ _ c.loop-left.invariant.lent _ c.count.ensures c.if-count-eq0.true c.if-left-lt8.true shown in
     search rules
 
 pub deliver_turn-requires : goal.deliver_turn-requires
@@ -44,18 +44,18 @@ overflow_add-at c =
     let few = c.requires.accepted.1 in
     omega arith
 
-pub loop-left-smaller-then-queued-eq0 : goal.loop-left-smaller-then-queued-eq0
-loop-left-smaller-then-queued-eq0 c =
-    lent-delivers-less _ _ _ _ c.loop-left.invariant.lent _ c.queued.ensures c.if-queued-eq0.true c.if-left-lt8.false _
+pub loop-left-smaller-then-count-eq0 : goal.loop-left-smaller-then-count-eq0
+loop-left-smaller-then-count-eq0 c =
+    lent-delivers-less _ _ _ _ c.loop-left.invariant.lent _ c.count.ensures c.if-count-eq0.true c.if-left-lt8.false _
     (rw c.loop-left.invariant.from at c.deliver_turn.ensures.leaves)
 
-pub loop-left-preserved-then-queued-eq0 : goal.loop-left-preserved-then-queued-eq0
-loop-left-preserved-then-queued-eq0 c =
+pub loop-left-preserved-then-count-eq0 : goal.loop-left-preserved-then-count-eq0
+loop-left-preserved-then-count-eq0 c =
     record {
       same_reference = search rules;
       from = search rules;
       lent =
-          lent-delivers _ _ _ _ c.loop-left.invariant.lent _ c.queued.ensures c.if-queued-eq0.true c.if-left-lt8.false _
+          lent-delivers _ _ _ _ c.loop-left.invariant.lent _ c.count.ensures c.if-count-eq0.true c.if-left-lt8.false _
           (rw c.loop-left.invariant.from at c.deliver_turn.ensures.leaves);
     }
 
@@ -66,7 +66,7 @@ pub returns-then-steps-eq-STEPS : goal.returns-then-steps-eq-STEPS
 returns-then-steps-eq-STEPS c =
     let shown = rw c.loop-left.invariant.from at c.show_limit.ensures.shows_bytes in
     let whole =
-    lent_limit _ _ _ _ c.loop-left.invariant.lent _ c.queued.ensures c.if-queued-eq0.false c.if-steps-eq-STEPS.true shown in
+    lent_limit _ _ _ _ c.loop-left.invariant.lent _ c.count.ensures c.if-count-eq0.false c.if-steps-eq-STEPS.true shown in
     search rules
 
 pub step_turn-requires : goal.step_turn-requires
@@ -80,7 +80,7 @@ show_line-requires c =
     let lent = c.loop-left.invariant.lent in
     let room = lent.going.room in
     let few =
-    lent-few _ _ _ _ lent _ c.queued.ensures c.if-queued-eq0.false c.if-steps-eq-STEPS.false _ _
+    lent-few _ _ _ _ lent _ c.count.ensures c.if-count-eq0.false c.if-steps-eq-STEPS.false _ _
     (rw c.loop-left.invariant.from at c.step_turn.ensures.leaves) in
     search rules
 
@@ -91,7 +91,7 @@ returns-then-step_turn c =
     let from = c.step_turn.ensures.from ∙ c.loop-left.invariant.from in
     let shown = shows-as (text-one _) (rw from at c.show_line.ensures.shows.shows_bytes) in
     let whole =
-    lent-ends _ _ _ _ c.loop-left.invariant.lent _ c.queued.ensures c.if-queued-eq0.false c.if-steps-eq-STEPS.false _ _ left
+    lent-ends _ _ _ _ c.loop-left.invariant.lent _ c.count.ensures c.if-count-eq0.false c.if-steps-eq-STEPS.false _ _ left
     c.if-step_turn.true shown in
     search rules
 
@@ -100,7 +100,7 @@ overflow_add-steps c = let few = c.loop-left.invariant.lent.going.few in omega a
 
 pub loop-left-smaller : goal.loop-left-smaller
 loop-left-smaller c =
-    lent-steps-less _ _ _ _ c.loop-left.invariant.lent _ c.queued.ensures c.if-queued-eq0.false c.if-steps-eq-STEPS.false _ _
+    lent-steps-less _ _ _ _ c.loop-left.invariant.lent _ c.count.ensures c.if-count-eq0.false c.if-steps-eq-STEPS.false _ _
     (rw c.loop-left.invariant.from at c.step_turn.ensures.leaves)
     c.if-step_turn.false
 
@@ -110,7 +110,7 @@ loop-left-preserved c =
       same_reference = search rules;
       from = search rules;
       lent =
-          lent-steps _ _ _ _ c.loop-left.invariant.lent _ c.queued.ensures c.if-queued-eq0.false c.if-steps-eq-STEPS.false _ _
+          lent-steps _ _ _ _ c.loop-left.invariant.lent _ c.count.ensures c.if-count-eq0.false c.if-steps-eq-STEPS.false _ _
           (rw c.loop-left.invariant.from at c.step_turn.ensures.leaves)
           c.if-step_turn.false;
     }
