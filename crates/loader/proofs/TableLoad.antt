@@ -1,28 +1,28 @@
 -- A table that was tested: a refusal writes nothing; where it is accepted, its two parts and the sizes that were kept are what compiling
 -- its program asks for. Assumes nothing.
 use Prim.Native.Nat.{ℕ, ◌+◌, ◌*◌, ◌-◌, ◌<◌, ◌≤◌}
-use mathlib.Core.Path.{◌≡◌, sym, ap, ap₂, subst, ◌∙◌}
+use mathlib.Core.Path.{◌≡◌, refl, sym, ap, ap₂, subst, ◌∙◌}
 use mathlib.Core.List.{List}
 use native.Mathlib.Omega.{arith}
 use native.Mathlib.Decide.{dec_lt}
 use Rattle.std.proofs.lemmas.List.{length-take}
 use lib.ListN.{length, get_or, take, drop, length-map, get_or-eq_default}
-use lib.Seq.{sets, get_or-take, get_or-drop}
+use lib.Seq.{sets, get_or-take, get_or-drop, length-sets, length-take-le, take_all}
 use Rattle.entries.specs.Parts.{AllBytes}
 use Rattle.job.specs.Syntax.{Program}
 use Rattle.job.specs.Entry.{entries}
 use Rattle.job.specs.Construct.{construct}
 use Rattle.job.specs.Read.{Got, got, read_entries, read_table, accepted}
 use Rattle.job.proofs.Stores.{take-sets}
-use Rattle.job.proofs.Accepted.{accepted-well-formed}
 use Rattle.reader.specs.Definition.{definition_nodes, definition_sizes}
 use Rattle.reader.specs.Table.{tested, sizes_kept}
 use Rattle.std.specs.Prelude.{Result, Ok, Err}
 use Rattle.entries.specs.declared.refusal.Refused.{Refused}
+use Rattle.reader.proofs.ProgramParts.{all-defined, parted}
 use Rattle.reader.proofs.TableLaws as tables
 use Rattle.reader.proofs.TableLaws.{definition-count, entry-count, part-entries, table-declined, table-read}
 use Rattle.loader.specs.TableLoaded.{loaded, loaded_words}
-use Rattle.loader.specs.ProgramStored.{Leads, Accepts, accepts, stored_program}
+use Rattle.loader.specs.ProgramStored.{Accepts, accepts, stored_program}
 
 -- a part of bytes is bytes
 pub part-bytes : (t : List ℕ) → AllBytes t → (n m : ℕ) → AllBytes (take n (drop m t))
@@ -62,25 +62,45 @@ module _ (t : List ℕ) (r : Result ℕ Refused) (er : r ≡ tested (read_table 
         pub load-definitions : c ≤ 32
         load-definitions = let f = it.3.definitions in let e = definition-count t load-long c ec in omega arith
 
-        read : read_entries c (entries (take (4 + n - 4) (drop 4 t)) (take (length t - (4 + n)) (drop (4 + n) t))) ≡ got it.0
-        read =
-            ap₂ read_entries (sym (definition-count t load-long c ec)) (part-entries t n (entry-count t load-long n en)) ∙ it.3.read
+        read : (m : ℕ) → m ≡ c
+            → read_entries m (entries (take (4 + n - 4) (drop 4 t)) (take (length t - (4 + n)) (drop (4 + n) t))) ≡ got it.0
+        read m e =
+            ap₂ read_entries (e ∙ sym (definition-count t load-long c ec)) (part-entries t n (entry-count t load-long n en)) ∙ it.3.read
 
-        pub load-accepts : (s s1 : List ℕ) → length s ≡ 32 → s1 ≡ sets s 0 (sizes_kept t)
-            → Accepts (read_entries c (entries (take (4 + n - 4) (drop 4 t)) (take (length t - (4 + n)) (drop (4 + n) t)))) k s1
-        load-accepts s s1 l e =
-            let ds = it.0.value.definitions in
-            let few = (accepted-well-formed t it.0.value it.1).definitions in
-            let many = length-map ds definition_nodes in
-            let front : Leads (definition_sizes ds) s1 =
-            ap (take (length (definition_sizes ds))) (e ∙ ap (sets s 0) it.3.kept) ∙ take-sets s (definition_sizes ds) (omega arith) in
-            subst (λ r. Accepts r k s1) (sym read) (accepts (sym it.2) front)
+        module _ (s s1 : List ℕ) (l : length s ≡ 32) (e : s1 ≡ sets s 0 (sizes_kept t)) where
+          pub load-room : c ≤ length s1
+          load-room =
+              let long = ap length e ∙ length-sets s 0 (sizes_kept t) in
+              let few = load-definitions in
+              omega arith
 
-        pub load-done : (d d1 : List ℕ)
-            → d1 ≡ stored_program (read_entries c (entries (take (4 + n - 4) (drop 4 t)) (take (length t - (4 + n)) (drop (4 + n) t)))) d
+          -- the sizes that are lent: one for each definition
+          pub load-counted : length (take c s1) ≡ c
+          load-counted = length-take-le c s1 load-room
+
+          sizes : take c s1 ≡ definition_sizes it.0.value.definitions
+          sizes =
+              let es = entries (take (4 + n - 4) (drop 4 t)) (take (length t - (4 + n)) (drop (4 + n) t)) in
+              let its = parted c es it.0 (read c refl) in
+              let facts = all-defined _ _ c 0 es refl its.definitions its.read-definitions in
+              let few = load-definitions in
+              let ds = it.0.value.definitions in
+              let many : length (definition_sizes ds) ≡ c =
+              length-map ds definition_nodes ∙ ap (λ (p : Program). length p.definitions) its.value ∙ facts.many in
+              ap₂ take (sym many) (e ∙ ap (sets s 0) it.3.kept) ∙ take-sets s (definition_sizes ds) (omega arith)
+
+          pub load-accepts : Accepts
+              (read_entries (length (take c s1)) (entries (take (4 + n - 4) (drop 4 t)) (take (length t - (4 + n)) (drop (4 + n) t)))) k
+              (take c s1)
+          load-accepts =
+              subst (λ r. Accepts r k (take c s1)) (sym (read (length (take c s1)) load-counted))
+              (accepts (sym it.2) (ap (λ ss. take (length ss) (take c s1)) (sym sizes) ∙ take_all _ (take c s1) (omega arith) ∙ sizes))
+
+        pub load-done : (m : ℕ) → m ≡ c → (d d1 : List ℕ)
+            → d1 ≡ stored_program (read_entries m (entries (take (4 + n - 4) (drop 4 t)) (take (length t - (4 + n)) (drop (4 + n) t)))) d
             → (Ok k ≡ loaded (read_table t)) × (d1 ≡ loaded_words (read_table t) d)
         unfolding loaded loaded_words
-        load-done d d1 e = (
+        load-done m em d d1 e = (
           sym (ap loaded it.1 ∙ ap Ok it.2),
-          e ∙ ap (λ p. stored_program p d) read ∙ sym (ap (λ a. loaded_words a d) it.1),
+          e ∙ ap (λ p. stored_program p d) (read m em) ∙ sym (ap (λ a. loaded_words a d) it.1),
         )

@@ -1,5 +1,5 @@
 // An accepted program: the bodies of its definitions, its goal, and the dag's head.
-ghost use Rattle.std.specs.Prelude.{◌≡◌, ◌≤◌};
+ghost use Rattle.std.specs.Prelude.{◌≡◌, ◌≤◌, length};
 ghost use Rattle.job.specs.Entry.{entries};
 ghost use Rattle.job.specs.Read.{read_entries};
 ghost use Rattle.reader.specs.Definition.{read_definition_list};
@@ -10,7 +10,6 @@ use compiler::body;
 use compiler::body::SinkKind;
 use entries::parts::EntryParts;
 use entries::scope;
-use job::bounds::MOST_DEFINITIONS;
 use job::dag::WORDS;
 
 // The first entry and the first node behind what is compiled.
@@ -20,25 +19,21 @@ pub(crate) struct Place {
     pub node: usize,
 }
 
-// Stores the bodies of so many definitions, whose sizes are known, and their words of the head. A body's sink is its last node.
-fn compile_definitions(
-    parts: EntryParts,
-    dag: &mut [u32; WORDS],
-    count: usize,
-    sizes: &[u32; MOST_DEFINITIONS],
-) -> Place
-    requires count_bound { count ≤ 32 }
-    requires definitions_read { DefinitionsRead (read_definition_list count 0 (entries parts.kinds.now parts.operands.now)) sizes.now }
-    ensures value { result
-        ≡ place_behind (read_definition_list count 0 (entries parts.entry.kinds.now parts.entry.operands.now)) }
-    ensures dag_after { dag.new
-        ≡ stored_definitions (read_definition_list count 0 (entries parts.entry.kinds.now parts.entry.operands.now)) dag.old }
+// Stores the bodies of the definitions whose sizes these are, and their words of the head. A body's sink is its last node.
+fn compile_definitions(parts: EntryParts, dag: &mut [u32; WORDS], sizes: &[u32]) -> Place
+    requires count_bound { length sizes.now ≤ 32 }
+    requires definitions_read { DefinitionsRead
+        (read_definition_list (length sizes.now) 0 (entries parts.kinds.now parts.operands.now)) sizes.now }
+    ensures value { result ≡ place_behind
+        (read_definition_list (length sizes.now) 0 (entries parts.entry.kinds.now parts.entry.operands.now)) }
+    ensures dag_after { dag.new ≡ stored_definitions
+        (read_definition_list (length sizes.now) 0 (entries parts.entry.kinds.now parts.entry.operands.now)) dag.old }
 {
     let mut at = 0;
     let mut node = 0;
-    for i in 0..count {
+    for (i, &size) in sizes.iter().enumerate() {
         let formals = parts.operand(at);
-        let last = node + sizes[i] as usize - 1;
+        let last = node + size as usize - 1;
         let scope = scope::of_formals(formals);
         let body = body::compile_body(parts, dag, scope, at + 1, node, last, SinkKind::Return);
         head::put_definition(dag, i, body.root, formals);
@@ -48,21 +43,20 @@ fn compile_definitions(
     Place { at, node }
 }
 
-// Stores the dag of a program with so many definitions, whose sizes and number of nodes its check found: each body is walked twice,
-// checked and compiled.
+// Stores the dag of a program. Its check found the sizes of its definitions and its number of nodes: each body is walked twice, checked
+// and compiled.
 pub(crate) fn compile_program(
     parts: EntryParts,
     dag: &mut [u32; WORDS],
-    count: usize,
-    sizes: &[u32; MOST_DEFINITIONS],
+    sizes: &[u32],
     nodes: usize,
 )
-    requires count_bound { count ≤ 32 }
-    requires accepts { Accepts (read_entries count (entries parts.kinds.now parts.operands.now)) nodes sizes.now }
-    ensures { dag.new
-        ≡ stored_program (read_entries count (entries parts.entry.kinds.now parts.entry.operands.now)) dag.old }
+    requires count_bound { length sizes.now ≤ 32 }
+    requires accepts { Accepts (read_entries (length sizes.now) (entries parts.kinds.now parts.operands.now)) nodes sizes.now }
+    ensures { dag.new ≡ stored_program
+        (read_entries (length sizes.now) (entries parts.entry.kinds.now parts.entry.operands.now)) dag.old }
 {
-    let before = compile_definitions(parts, dag, count, sizes);
+    let before = compile_definitions(parts, dag, sizes);
     let scope = scope::of_formals(0);
     let goal = body::compile_body(
         parts,
@@ -73,5 +67,5 @@ pub(crate) fn compile_program(
         nodes - 1,
         SinkKind::Publish,
     );
-    head::put_sizes(dag, goal.node as u32, count as u32, goal.root);
+    head::put_sizes(dag, goal.node as u32, sizes.len() as u32, goal.root);
 }

@@ -24,6 +24,6 @@ pub fn load(table: &[u8], dag: &mut [u32; WORDS]) -> Result<usize, Refused>
         kinds: &table[4..e],
         operands: &table[e..],
     };
-    program::compile_program(parts, dag, definitions, &sizes, nodes);
+    program::compile_program(parts, dag, &sizes[..definitions], nodes);
     Ok(nodes)
 }

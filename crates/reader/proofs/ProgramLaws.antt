@@ -19,7 +19,7 @@ use Rattle.entries.specs.declared.refusal.Refused.{Refused}
 use Rattle.entries.specs.declared.refusal.TableRefusal.TheVariants as refusals
 use Rattle.entries.proofs.CheckedLaws.{bind-refused, answered-refused, checked-next, passed}
 use Rattle.entries.proofs.ExpressionNodes.{next-few}
-use Rattle.reader.specs.Definition.{read_definition_list, definition_list_nodes, definitions_found, DefinitionsHold}
+use Rattle.reader.specs.Definition.{read_definition_list, definition_list_nodes, definition_sizes, definitions_found, DefinitionsHold}
 use Rattle.reader.proofs.ProgramParts.{whole, goal_read, AllDefined, all-defined, all_found, tests, entries-opened}
 use Rattle.reader.proofs.ProgramNodes.{construct-length}
 
@@ -118,10 +118,14 @@ module _ (ks os : List ℕ) (n : ℕ) (d : Checked) (fs₀ fs ss₀ ss : List �
           unfolding tests
           end-refused z k = rw tested (bind-refused _ _ _ _ z (sym ends ∙ k))
 
-          module _ (t : Unit {0}) (k : u ≡ Ok t) (l : n ≤ 32) (m : length fs₀ ≡ 32) (v : Result (Unit {0}) Refused)
-              (ev : v ≡ checked_test (definitions_hold (take n fs) 0 (entries ks os))) where
+          module _ (t : Unit {0}) (k : u ≡ Ok t) (same : n ≡ length ss₀) (l : n ≤ 32) (m : length fs₀ ≡ 32)
+              (v : Result (Unit {0}) Refused)
+              (ev : v ≡ checked_test (definitions_hold (take (length ss) fs) 0 (entries ks os))) where
             called : v ≡ checked_test (definitions_hold (formals_of first.0.value) 0 (entries ks os))
-            called = ev ∙ ap (λ fs. checked_test (definitions_hold fs 0 (entries ks os))) (counts l m)
+            called =
+                let kept : length ss ≡ n =
+                ap length found.counted ∙ length-sets ss₀ 0 (definition_sizes (definitions_found n 0 (entries ks os))) ∙ sym same in
+                ev ∙ ap (λ fs. checked_test (definitions_hold fs 0 (entries ks os))) (ap (λ k. take k fs) kept ∙ counts l m)
 
             left : read_entries n (entries ks os)
                 ≡ (definitions_hold (formals_of first.0.value) 0 (entries ks os) >>= (λ _. got program))

@@ -1,21 +1,22 @@
 -- A table: its two sizes are four bytes and its parts stand behind them, so each test of the code is one of the definitions', and what is
 -- left is the answer for its entries. Assumes nothing.
-use Prim.Native.Nat.{ℕ, suc, ◌+◌, ◌*◌, ◌-◌, ◌<◌, ◌≤◌}
+use Prim.Native.Nat.{ℕ, zero, suc, ◌+◌, ◌*◌, ◌-◌, ◌<◌, ◌≤◌}
 use mathlib.Core.Path.{◌≡◌, refl, sym, ap, ap₂, ◌∙◌}
-use mathlib.Core.List.{List, []}
+use mathlib.Core.List.{List, [], ◌∷◌, ◌++◌}
 use native.Mathlib.Numerals.{add-one}
 use native.Mathlib.Omega.{arith}
-use lib.ListN.{length, get_or, take, drop, length-drop}
-use lib.Seq.{sets, drop-cons, take_all}
+use lib.ListN.{length, get_or, set, take, drop, length-drop, length-map}
+use lib.Seq.{sets, drop-cons, take_all, length-take-le}
+use Rattle.std.proofs.lemmas.List.{take-append-drop, set-append_left, length-set}
 use lib.Dec.{leb}
 use Rattle.std.specs.Prelude.{Result, Ok, Err}
 use Rattle.job.specs.Test.{◌and◌}
 use Rattle.job.specs.Number.{number}
-use Rattle.job.specs.Syntax.{Program}
-use Rattle.job.specs.Entry.{entries, size_d, size_n, table_length, table_entries}
+use Rattle.job.specs.Syntax.{Definition, Program}
+use Rattle.job.specs.Entry.{Entry, entries, size_d, size_n, table_length, table_entries}
 use Rattle.job.specs.Construct.{construct}
-use Rattle.job.specs.Read.{Got, Read, got, refused, ◌>>=◌, gives, need, read_entries, read_sizes, read_bytes, Answer, accepted}
-use Rattle.job.specs.Read.{declined, reader_answer, read_table}
+use Rattle.job.specs.Read.{Got, Read, got, refused, ◌>>=◌, gives, need, read_definition, read_entries, read_sizes, read_bytes, Answer}
+use Rattle.job.specs.Read.{accepted, declined, reader_answer, read_table}
 use Rattle.job.proofs.Test.{eq-eqb, ne_eqb, le-leb, lt-not-leb}
 use Rattle.job.proofs.Read.{Yields, reads, says-bind, yields-map, yields-itself}
 use Rattle.job.proofs.Sizes.{sizes-found, sizes-pass}
@@ -24,7 +25,7 @@ use Rattle.entries.specs.Refusal.{refused_as}
 use Rattle.entries.specs.declared.checked.Extent.{Extent}
 use Rattle.entries.specs.declared.refusal.Refused.{Refused}
 use Rattle.entries.specs.declared.refusal.TableRefusal.TheVariants as refusals
-use Rattle.reader.specs.Definition.{definition_sizes, definitions_found}
+use Rattle.reader.specs.Definition.{definition_nodes, definition_sizes, and_then, definitions_found}
 use Rattle.reader.specs.Table.{tested, where_sized, sizes_kept}
 use Rattle.entries.proofs.CheckedLaws.{answered-refused, checked-next}
 use Rattle.entries.proofs.RefusalNumbers.{clash, same-case}
@@ -34,6 +35,24 @@ use Rattle.reader.proofs.ProgramParts.{parted, all_found}
 pub half_at : (s : List ℕ) (i : ℕ) → i + 2 ≤ length s → number (take 2 (drop i s)) ≡ get_or s i 0 + 256 * get_or s (i + 1) 0
 unfolding number
 half_at s i l = rw (add-one, drop-cons s i 0 (omega arith), drop-cons s (suc i) 0 (omega arith)) (omega arith)
+
+-- stores in the first of two parts
+sets-append_left : (xs ys : List ℕ) (i : ℕ) (ws : List ℕ) → i + length ws ≤ length xs → sets (xs ++ ys) i ws ≡ sets xs i ws ++ ys
+sets-append_left xs ys i [] h = refl
+sets-append_left xs ys i (w ∷ ws) h =
+    ap (λ l. sets l (suc i) ws) (set-append_left xs ys i w (omega arith))
+    ∙ sets-append_left (set xs i w) ys (suc i) ws (omega (arith, length-set xs i w))
+
+-- no more are found than are asked for
+found_few : (n e : ℕ) (es : List Entry) → length (definitions_found n e es) ≤ n
+unfolding definitions_found and_then
+found_few zero e es = omega arith
+found_few (suc n) e es = go (read_definition e es) (found_few n)
+  where
+    go : (r : Read Definition) → ((e : ℕ) (es : List Entry) → length (definitions_found n e es) ≤ n)
+        → length (and_then r (λ d. definitions_found n d.next d.rest)) ≤ suc n
+    go (got d) few = omega (arith, few d.next d.rest)
+    go (refused k i) few = omega arith
 
 -- the two sizes, and the parts that the code takes by them
 module _ (t : List ℕ) where
@@ -89,11 +108,12 @@ module _ (t s : List ℕ) where
           unfolding need ◌and◌
           table-long h = decline 2 (ranges ∙ rw (le-leb c 32 f, le-leb 1 n z, lt-not-leb n 512 h))
 
-          module _ (m : n ≤ 512) (q : Checked)
-              (eq : q ≡ checked_program (read_entries c (entries (take (4 + n - 4) (drop 4 t)) (take (length t - (4 + n)) (drop (4 + n)
-              t)))))
-              (s1 : List ℕ)
-              (es : s1 ≡ sets s 0 (definition_sizes (definitions_found c 0
+          -- the sizes that are lent, one for each definition, and those that stay behind them
+          module _ (m : n ≤ 512) (long : 32 ≤ length s) (q : Checked)
+              (eq : q ≡ checked_program (read_entries (length (take c s))
+              (entries (take (4 + n - 4) (drop 4 t)) (take (length t - (4 + n)) (drop (4 + n) t)))))
+              (lent : List ℕ)
+              (es : lent ≡ sets (take c s) 0 (definition_sizes (definitions_found (length (take c s)) 0
               (entries (take (4 + n - 4) (drop 4 t)) (take (length t - (4 + n)) (drop (4 + n) t)))))) where
             sized : read_sizes t ≡ gives tt 0 []
             unfolding need ◌and◌
@@ -103,26 +123,34 @@ module _ (t s : List ℕ) where
             unfolding read_bytes ◌>>=◌
             read = rw sized
 
-            answer : q ≡ checked_program (read_entries (size_d t) (table_entries t))
-            answer =
-                eq ∙ ap₂ (λ c es. checked_program (read_entries c es)) (sym (definition-count t l c ec))
-                (part-entries t n (entry-count t l n en))
+            counted : length (take c s) ≡ size_d t
+            counted = length-take-le c s (omega arith) ∙ sym (definition-count t l c ec)
 
-            kept : s1 ≡ sets s 0 (sizes_kept t)
+            answer : q ≡ checked_program (read_entries (size_d t) (table_entries t))
+            answer = eq ∙ ap₂ (λ c es. checked_program (read_entries c es)) counted (part-entries t n (entry-count t l n en))
+
+            kept : lent ++ drop c s ≡ sets s 0 (sizes_kept t)
             unfolding sizes_kept where_sized
             kept =
-                es
-                ∙ ap₂ (λ c es. sets s 0 (definition_sizes (definitions_found c 0 es))) (sym (definition-count t l c ec))
-                (part-entries t n (entry-count t l n en))
+                let ds = definitions_found (size_d t) 0 (table_entries t) in
+                let few = found_few (size_d t) 0 (table_entries t) in
+                let same = definition-count t l c ec in
+                let room = length-take-le c s (omega arith) in
+                let many = length-map ds definition_nodes in
+                ap (λ l. l ++ drop c s)
+                (es ∙ ap₂ (λ c' es. sets (take c s) 0 (definition_sizes (definitions_found c' 0 es))) counted
+                (part-entries t n (entry-count t l n en)))
+                ∙ sym (sets-append_left (take c s) (drop c s) 0 (definition_sizes ds) (omega arith))
+                ∙ ap (λ l. sets l 0 (definition_sizes ds)) (take-append-drop c s)
                 ∙ sym (rw sized)
 
-            pub table-refused : (x : Refused) → q ≡ Err x → Tests (Err x) s1
+            pub table-refused : (x : Refused) → q ≡ Err x → Tests (Err x) (lent ++ drop c s)
             unfolding read_table reader_answer tested
             table-refused x h =
                 let r = answered-refused _ (read_entries (size_d t) (table_entries t)) x (sym answer ∙ h) in
                 (sym (ap (λ b. tested (reader_answer b)) (read ∙ r.2) ∙ ap Err r.3), kept)
 
-            pub table-accepted : (x : Extent) → q ≡ Ok x → Tests (Ok x.nodes) s1
+            pub table-accepted : (x : Extent) → q ≡ Ok x → Tests (Ok x.nodes) (lent ++ drop c s)
             unfolding read_table reader_answer tested
             table-accepted x h =
                 let r = checked-next (λ p. length (construct p).nodes) (read_entries (size_d t) (table_entries t)) x (sym answer ∙ h) in

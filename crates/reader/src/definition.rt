@@ -1,5 +1,5 @@
 // The definitions in front of the goal.
-ghost use Rattle.std.specs.Prelude.{◌≡◌, ◌≤◌};
+ghost use Rattle.std.specs.Prelude.{◌≡◌, ◌≤◌, length};
 ghost use Rattle.job.specs.Entry.{entries};
 ghost use Rattle.job.specs.Read.{read_definition};
 ghost use Rattle.entries.specs.Parts.{entries_from};
@@ -44,24 +44,23 @@ fn check_definition(parts: EntryParts, at: usize) -> Result<Extent, Refused>
     })
 }
 
-// So many definitions, from the first entry on. The count of formals and the number of nodes, its sink included, of each that is read
-// before the first refusal are kept.
+// As many definitions as there are sizes, from the first entry on. The count of formals and the number of nodes, its sink included, of
+// each that is read before the first refusal are kept.
 pub(crate) fn check_definitions(
     parts: EntryParts,
-    count: usize,
     formals: &mut [u32; MOST_DEFINITIONS],
-    sizes: &mut [u32; MOST_DEFINITIONS],
+    sizes: &mut [u32],
 ) -> Result<Extent, Refused>
-    requires { count ≤ 32 }
-    ensures { DefinitionsHold count (entries parts.entry.kinds.now parts.entry.operands.now) result
+    requires { length sizes.old ≤ 32 }
+    ensures { DefinitionsHold (length sizes.old) (entries parts.entry.kinds.now parts.entry.operands.now) result
         formals.old formals.new sizes.old sizes.new }
 {
     let mut at = 0;
     let mut nodes = 0;
-    for i in 0..count {
+    for (i, size) in sizes.iter_mut().enumerate() {
         let definition = check_definition(parts, at)?;
         formals[i] = parts.operand(at);
-        sizes[i] = definition.nodes as u32;
+        *size = definition.nodes as u32;
         at = definition.next;
         nodes += definition.nodes;
     }

@@ -1,5 +1,5 @@
 // A table's entries: definitions, goal, leftovers, calls.
-ghost use Rattle.std.specs.Prelude.{◌≡◌, ◌≤◌};
+ghost use Rattle.std.specs.Prelude.{◌≡◌, ◌≤◌, length};
 ghost use Rattle.std.proofs.lemmas.List.Edits.{sets};
 ghost use Rattle.job.specs.Entry.{entries};
 ghost use Rattle.job.specs.Read.{leftovers, read_entries};
@@ -27,24 +27,20 @@ fn check_end(parts: EntryParts, at: usize) -> Result<(), Refused>
     Ok(())
 }
 
-// The entries of a table with so many definitions: the first entry behind them and the number of nodes, or the refusal. The sizes of its
-// definitions are kept, so that no body is walked again to count it.
-pub(crate) fn check_program(
-    parts: EntryParts,
-    definitions: usize,
-    sizes: &mut [u32; MOST_DEFINITIONS],
-) -> Result<Extent, Refused>
-    requires { definitions ≤ 32 }
+// The entries of a table with as many definitions as there are sizes: the first entry behind them and the number of nodes, or the refusal.
+// The sizes of its definitions are kept, so that no body is walked again to count it.
+pub(crate) fn check_program(parts: EntryParts, sizes: &mut [u32]) -> Result<Extent, Refused>
+    requires { length sizes.old ≤ 32 }
     ensures value { result
-        ≡ checked_program (read_entries definitions (entries parts.entry.kinds.now parts.entry.operands.now)) }
+        ≡ checked_program (read_entries (length sizes.old) (entries parts.entry.kinds.now parts.entry.operands.now)) }
     ensures sizes_after { sizes.new ≡ sets sizes.old 0
-        (definition_sizes (definitions_found definitions 0 (entries parts.entry.kinds.now parts.entry.operands.now))) }
+        (definition_sizes (definitions_found (length sizes.old) 0 (entries parts.entry.kinds.now parts.entry.operands.now))) }
 {
     let mut formals = [0u32; MOST_DEFINITIONS];
-    let found = definition::check_definitions(parts, definitions, &mut formals, sizes)?;
+    let found = definition::check_definitions(parts, &mut formals, sizes)?;
     let goal = expression::check_expression(parts, DEPTH_LIMIT, scope::of_formals(0), found.next)?;
     check_end(parts, goal.next)?;
-    calls::check_calls(parts, &formals[..definitions])?;
+    calls::check_calls(parts, &formals[..sizes.len()])?;
     Ok(Extent {
         next: goal.next,
         nodes: found.nodes + goal.nodes + 1,

@@ -51,6 +51,6 @@ pub fn check_table(table: &[u8], sizes: &mut [u32; MOST_DEFINITIONS]) -> Result<
         kinds: &table[4..e],
         operands: &table[e..],
     };
-    let program = program::check_program(parts, definitions, sizes)?;
+    let program = program::check_program(parts, &mut sizes[..definitions])?;
     Ok(program.nodes)
 }

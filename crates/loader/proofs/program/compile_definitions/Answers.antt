@@ -2,6 +2,9 @@
 -- are still to be read. Assumes nothing.
 use borrow.Author.Rules.{Fits-under}
 use mir.Syntax.{w64}
+use native.Mathlib.Omega.{arith}
+use Prim.Native.Nat.{◌<◌}
+use lib.ListN.{length}
 use Rattle.loader.proofs.ProgramDefinitions.{writing_start, writing-end, turn-here, turn-next}
 use Rattle.loader.proofs.ProgramDefinitions.{turn-sum, turn-some, turn-formals, turn-read, turn_more}
 use Rattle.loader.proofs.program.compile_definitions.Goals as goal
@@ -27,12 +30,12 @@ overflow_add-at c = let few = c.args.parts.fit.few in Fits-under w64 _ 4096 (sea
 pub compile_body-body-requires : goal.compile_body-body-requires
 compile_body-body-requires c = (
   _,
-  turn-read _ _ _ _ _ _ _ _ _ c.loop-i.invariant c.loop-i-test.true _ c.operand-formals.ensures _ c.of_formals-scope.ensures,
+  turn-read _ _ _ _ _ _ _ _ _ c.loop-i.invariant (omega arith) _ c.operand-formals.ensures _ c.of_formals-scope.ensures,
 )
 
 pub loop-i-preserved : goal.loop-i-preserved
 loop-i-preserved c =
-    let more = c.loop-i-test.true in
+    let more : c.loop-i.i < length c.args.sizes.now = omega arith in
     let accepted = turn-read _ _ _ _ _ _ _ _ _ c.loop-i.invariant more _ c.operand-formals.ensures _ c.of_formals-scope.ensures in
     let given = c.compile_body-body.ensures _ accepted in
     turn_more _ _ _ _ _ _ _ _ _ c.loop-i.invariant more _ c.operand-formals.ensures c.requires.count_bound _ _ _ given.0 given.1
@@ -40,5 +43,5 @@ loop-i-preserved c =
 
 pub returns : goal.returns
 returns c =
-    let h = writing-end _ _ _ _ _ _ _ _ _ c.loop-i.invariant c.loop-i-test.false in
+    let h = writing-end _ _ _ _ _ _ _ _ _ c.loop-i.invariant (omega arith) in
     record { value = h.0; dag_after = h.1 }

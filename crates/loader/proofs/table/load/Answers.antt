@@ -1,11 +1,11 @@
 -- `table::load` meets its contract: a refusal writes nothing, and an accepted table has the sizes and the parts that are taken from it.
 -- Assumes nothing.
-use mathlib.Core.Path.{refl}
+use mathlib.Core.Path.{refl, sym}
 use borrow.Author.Rules.{rules}
 use native.Mathlib.Omega.{arith}
 use Rattle.std.proofs.lemmas.Result.{err_from_is_err_and}
-use Rattle.loader.proofs.TableLoad.{refused-answer, refused-words, load-long, load-even, load-few, load-definitions, load-accepts}
-use Rattle.loader.proofs.TableLoad.{part-bytes, load-done}
+use Rattle.loader.proofs.TableLoad.{refused-answer, refused-words, load-long, load-even, load-few, load-definitions, load-room}
+use Rattle.loader.proofs.TableLoad.{part-bytes, load-counted, load-accepts, load-done}
 use Rattle.loader.proofs.table.load.Goals as goal
 
 pub returns-in_err-nodes : goal.returns-in_err-nodes
@@ -49,16 +49,30 @@ invariant_of-parts-clause-fit c =
 pub invariant_of-parts-clause-bytes : goal.invariant_of-parts-clause-bytes
 invariant_of-parts-clause-bytes c = part-bytes c.args.table.now (λ i. omega (arith, c.type_inv.table i)) _ _
 
+pub slice_bounds-sizes-end : goal.slice_bounds-sizes-end
+slice_bounds-sizes-end c = load-room _ _ c.check_table.ensures.value _ c.in_ok-nodes.was _ c.half-e.ensures.0 _
+    c.half-definitions.ensures.0 _ _ refl c.check_table.ensures.sizes_after
+
+pub slice_bounds-compile_program-end : goal.slice_bounds-compile_program-end
+slice_bounds-compile_program-end c = sym (load-counted _ _ c.check_table.ensures.value _ c.in_ok-nodes.was _ c.half-e.ensures.0 _
+    c.half-definitions.ensures.0 _ _ refl c.check_table.ensures.sizes_after)
+
 pub compile_program-requires : goal.compile_program-requires
-compile_program-requires c = record {
-  count_bound = load-definitions _ _ c.check_table.ensures.value _ c.in_ok-nodes.was _ c.half-e.ensures.0 _
-      c.half-definitions.ensures.0;
-  accepts = load-accepts _ _ c.check_table.ensures.value _ c.in_ok-nodes.was _ c.half-e.ensures.0 _
-      c.half-definitions.ensures.0 _ _ refl c.check_table.ensures.sizes_after;
-}
+compile_program-requires c =
+    let few = load-definitions _ _ c.check_table.ensures.value _ c.in_ok-nodes.was _ c.half-e.ensures.0 _
+    c.half-definitions.ensures.0 in
+    let counted = load-counted _ _ c.check_table.ensures.value _ c.in_ok-nodes.was _ c.half-e.ensures.0 _
+    c.half-definitions.ensures.0 _ _ refl c.check_table.ensures.sizes_after in
+    record {
+      count_bound = rw counted few;
+      accepts = load-accepts _ _ c.check_table.ensures.value _ c.in_ok-nodes.was _ c.half-e.ensures.0 _
+          c.half-definitions.ensures.0 _ _ refl c.check_table.ensures.sizes_after;
+    }
 
 pub returns : goal.returns
 returns c =
+    let counted = load-counted _ _ c.check_table.ensures.value _ c.in_ok-nodes.was _ c.half-e.ensures.0 _
+    c.half-definitions.ensures.0 _ _ refl c.check_table.ensures.sizes_after in
     let h = load-done _ _ c.check_table.ensures.value _ c.in_ok-nodes.was _ c.half-e.ensures.0 _
-    c.half-definitions.ensures.0 _ _ c.compile_program.ensures in
+    c.half-definitions.ensures.0 _ counted _ _ c.compile_program.ensures in
     record { value = h.0; dag_after = h.1 }

@@ -2,6 +2,7 @@
 -- counts of formals and the sizes so far are stored at the front of the arrays. Assumes nothing.
 use borrow.Author.Rules.{Fits-under}
 use mir.Syntax.{w32, w64}
+use Rattle.std.proofs.lemmas.List.{set-get_or}
 use Rattle.std.proofs.lemmas.Result.{err_from_is_err_and}
 use Rattle.reader.proofs.DefinitionLoop.{reading-start, reading-end, reading-refused, reading-more}
 use Rattle.reader.proofs.DefinitionLoop.{reading-here, reading-fits, reading-size}
@@ -14,13 +15,13 @@ pub returns-in_err-definition : goal.returns-in_err-definition
 returns-in_err-definition c =
     let p = err_from_is_err_and c.from_residual.result c.from_residual.ensures.1 in
     let h = c.in_err-definition.was in
-    rw (p.1, p.2) (search reading-refused)
+    rw (p.1, p.2, set-get_or) (search reading-refused)
 
 pub operand-requires : goal.operand-requires
 operand-requires c = let h = c.in_ok-definition.was in search reading-here
 
-pub overflow_cast-sizes : goal.overflow_cast-sizes
-overflow_cast-sizes c = let h = c.in_ok-definition.was in let few = c.args.parts.fit.few in
+pub overflow_cast-size : goal.overflow_cast-size
+overflow_cast-size c = let h = c.in_ok-definition.was in let few = c.args.parts.fit.few in
     Fits-under w32 _ 4096 (search reading-size) tt
 
 pub overflow_add-nodes : goal.overflow_add-nodes

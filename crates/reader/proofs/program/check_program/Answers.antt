@@ -32,7 +32,7 @@ returns-in_err-check_calls-clause-value c =
     let q = c.check_expression.ensures _ c.of_formals.ensures in
     rw (p.1, p.2)
     (calls-refused _ _ _ _ _ _ _ _ c.check_definitions.ensures _ c.in_ok-found.was _ q _ c.in_ok-goal.was _ c.check_end.ensures _
-    c.in_ok-check_end.was c.requires refl _ c.check_calls.ensures _ c.in_err-check_calls.was)
+    c.in_ok-check_end.was refl c.requires refl _ c.check_calls.ensures _ c.in_err-check_calls.was)
 
 pub overflow_add-result : goal.overflow_add-result
 overflow_add-result c =
@@ -50,4 +50,4 @@ pub returns-clause-value : goal.returns-clause-value
 returns-clause-value c =
     let q = c.check_expression.ensures _ c.of_formals.ensures in
     program-done _ _ _ _ _ _ _ _ c.check_definitions.ensures _ c.in_ok-found.was _ q _ c.in_ok-goal.was _ c.check_end.ensures _
-    c.in_ok-check_end.was c.requires refl _ c.check_calls.ensures _ c.in_ok-check_calls.was
+    c.in_ok-check_end.was refl c.requires refl _ c.check_calls.ensures _ c.in_ok-check_calls.was
