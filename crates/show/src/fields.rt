@@ -1,15 +1,13 @@
 // A record as lines. Of a record every field is shown that is not blank; of words that are no record's every one that is not 0. An error
 // is one of a write that failed; what was printed before it stays.
-ghost use Rattle.std.specs.Prelude.{◌<◌, ◌≤◌};
+ghost use Rattle.std.specs.Prelude.{◌<◌};
 
 use coded::word_tests::is_record;
-use job::wide::wide;
 use model::record::Machine;
 use record::layout::{
-    BLANK_STATE, CALLED_STATE, DUE_STATE, EMPTY_SLOT, QUEUE_START, READY_STATE, TIMERS_START,
-    VALUE_SLOT, WAITING_STATE, WAITS_START,
+    BLANK_STATE, CALLED_STATE, DUE_STATE, EMPTY_SLOT, READY_STATE, VALUE_SLOT, WAITING_STATE,
 };
-use record::order::{CallOrder, Queue, WaitOrder};
+use record::order::{CallOrder, Order, Queue, WaitOrder};
 use record::{cell, count, order, token};
 use row_rules::blank::{cell_is_blank, token_is_blank};
 use sites::number::signed;
@@ -111,7 +109,7 @@ fn cells(rt: &impl Print, w: &[u32; Machine::WORDS]) -> io::Result<()> {
 
 // A word that counts, or with its index one behind those that is not 0.
 fn name(rt: &impl Print, word: u32, i: usize, count: u32) -> io::Result<()> {
-    if i < wide(count) {
+    if i < count as usize {
         print!(rt; " {word}")
     } else if word != 0 {
         print!(rt; " behind {i} {word}")
@@ -121,26 +119,19 @@ fn name(rt: &impl Print, word: u32, i: usize, count: u32) -> io::Result<()> {
 }
 
 // An order: how many names count, and the 64 words from its start on.
-fn show_order(
-    rt: &impl Print,
-    w: &[u32; Machine::WORDS],
-    title: &str,
-    start: usize,
-    count: u32,
-) -> io::Result<()>
-    requires { start ≤ 1797 }
-{
+fn show_order<O: Order>(rt: &impl Print, w: &[u32; Machine::WORDS], title: &str) -> io::Result<()> {
+    let count = order::count::<O>(w);
     print!(rt; "  {title} {count}:")?;
-    for (i, &word) in w[start..start + Machine::TOKENS].iter().enumerate() {
+    for (i, &word) in w[O::START..O::START + Machine::TOKENS].iter().enumerate() {
         name(rt, word, i, count)?;
     }
     print!(rt; "\n")
 }
 
 fn orders(rt: &impl Print, w: &[u32; Machine::WORDS]) -> io::Result<()> {
-    show_order(rt, w, "queue", QUEUE_START, order::count::<Queue>(w))?;
-    show_order(rt, w, "waits", WAITS_START, order::count::<WaitOrder>(w))?;
-    show_order(rt, w, "timers", TIMERS_START, order::count::<CallOrder>(w))
+    show_order::<Queue>(rt, w, "queue")?;
+    show_order::<WaitOrder>(rt, w, "waits")?;
+    show_order::<CallOrder>(rt, w, "timers")
 }
 
 fn counts(rt: &impl Print, w: &[u32; Machine::WORDS]) -> io::Result<()> {

@@ -12,7 +12,7 @@ use acts::choke::choke_cell;
 use acts::end::{publish, stop};
 use acts::rebind::{assign, remove};
 use calls::site_call::site_call;
-use job::dag::{ASSIGN, CALL, CHOKE, FORK, REMOVE, RETURN, SITE, STOP, WHERE, WORDS};
+use job::dag::{NodeKind, WORDS};
 use model::record::Machine;
 use model::reply::Report;
 use reach::used::Marks;
@@ -34,22 +34,25 @@ pub(crate) fn act(
         → OneCallee shared.old m
         → Stepped (Step.step paper (dag_of dag.now) m actor.place) m w.new marks.new shared.new result }
 {
-    match dag_word(dag, actor.row) {
-        STOP => stop(w, marks, dag, actor),
-        SITE => site_call(w, marks, dag, actor),
-        CALL => call_marked(w, marks, shared, dag, actor),
-        FORK => {
+    let Some(kind) = NodeKind::from_word(dag_word(dag, actor.row)) else {
+        unreachable!()
+    };
+    match kind {
+        NodeKind::Stop => stop(w, marks, dag, actor),
+        NodeKind::Site => site_call(w, marks, dag, actor),
+        NodeKind::Call => call_marked(w, marks, shared, dag, actor),
+        NodeKind::Fork => {
             share_caller(w, actor.token, shared);
             fork(w, marks, dag, actor)
         }
-        ASSIGN => assign(w, marks, dag, actor),
-        REMOVE => remove(w, marks, dag, actor),
-        WHERE => {
+        NodeKind::Assign => assign(w, marks, dag, actor),
+        NodeKind::Remove => remove(w, marks, dag, actor),
+        NodeKind::Where => {
             share_caller(w, actor.token, shared);
             where_split(w, marks, dag, actor)
         }
-        CHOKE => choke_cell(w, marks, dag, actor),
-        RETURN => return_marked(w, marks, shared, dag, actor),
-        _ => publish(w, marks, dag, actor),
+        NodeKind::Choke => choke_cell(w, marks, dag, actor),
+        NodeKind::Return => return_marked(w, marks, shared, dag, actor),
+        NodeKind::Publish => publish(w, marks, dag, actor),
     }
 }

@@ -1,5 +1,4 @@
 -- `callees::share_caller` meets its contract: by the number of the caller's place. Assumes nothing.
-use mathlib.Core.Path.{◌∙◌}
 use Rattle.unchecked.proofs.CalleeMarks.{shared-none, shared-far, shared_at}
 use Rattle.unchecked.proofs.callees.share_caller.Goals as goal
 

@@ -2,7 +2,7 @@
 use Prim.Native.Nat.{◌+◌, ◌*◌}
 use Rattle.unchecked.proofs.WholeCall.{place_inside, taking-of, acting-of}
 use Rattle.acts.proofs.Outcomes.{token-inside}
-use mathlib.Core.Path.{ap, ◌∙◌}
+use mathlib.Core.Path.{ap}
 use Rattle.unchecked.proofs.step.step.Goals as goal
 
 pub place_at-token-requires : goal.place_at-token-requires
