@@ -1,35 +1,25 @@
 // The twelve words of a call's node, off its entries, stored in the dag.
-ghost use Rattle.std.specs.Prelude.{◌≡◌, ◌+◌, ◌*◌, ◌<◌, ◌≤◌, length, get_or, ltb};
+ghost use Rattle.std.specs.Prelude.{◌≡◌, ◌+◌, ◌*◌, ◌<◌, ◌≤◌, length};
 ghost use Rattle.std.proofs.lemmas.List.Edits.{sets};
 ghost use Rattle.job.specs.Entry.{high, operand_at};
 ghost use Rattle.job.specs.Words.{head_words, array_words};
 ghost use Rattle.entries.specs.Parts.{Parts};
-ghost use Rattle.compiler.specs.CallNodeWords.{word_if, place_words, call_node_words};
+ghost use Rattle.compiler.specs.CallNodeWords.{place_words, call_node_words};
 
 use crate::store::put_four;
 use entries::parts::EntryParts;
 use job::dag::{HEAD_WORDS, ROW_WORDS, WORDS};
 
-// The kind of parameter `i` of `count`, whose entries begin at `at`, or 0.
-fn kind_word(parts: EntryParts, at: usize, i: usize, count: usize) -> u32
+// Kind and operand of parameter `i` of `count`, whose entries begin at `at`, or 0 and 0.
+fn place_pair(parts: EntryParts, at: usize, i: usize, count: usize) -> [u32; 2]
     requires { at + count ≤ length parts.kinds.now }
-    ensures { result ≡ word_if (ltb i count) (get_or parts.entry.kinds.now (at + i) 0) }
+    ensures { result ≡ place_words 1 i count parts.entry.kinds.now parts.entry.operands.now at }
 {
     if i < count {
-        return parts.kinds[at + i] as u32;
+        [parts.kinds[at + i] as u32, parts.operand(at + i)]
+    } else {
+        [0, 0]
     }
-    0
-}
-
-// The operand of parameter `i` of `count`, whose entries begin at `at`, or 0.
-fn operand_word(parts: EntryParts, at: usize, i: usize, count: usize) -> u32
-    requires { at + count ≤ length parts.kinds.now }
-    ensures { result ≡ word_if (ltb i count) (operand_at parts.entry.operands.now (at + i)) }
-{
-    if i < count {
-        return parts.operand(at + i);
-    }
-    0
 }
 
 // Stores the words of two places for parameters, from place `i` on, at word `word`: the entries of `count` parameters begin at `at`.
@@ -45,14 +35,9 @@ fn put_places(
     ensures { dag.new
         ≡ sets dag.old word (place_words 2 i count parts.entry.kinds.now parts.entry.operands.now at) }
 {
-    put_four(
-        dag,
-        word,
-        kind_word(parts, at, i, count),
-        operand_word(parts, at, i, count),
-        kind_word(parts, at, i + 1, count),
-        operand_word(parts, at, i + 1, count),
-    );
+    let first = place_pair(parts, at, i, count);
+    let second = place_pair(parts, at, i + 1, count);
+    put_four(dag, word, first[0], first[1], second[0], second[1]);
 }
 
 // "low 16 bits site, high 16 bits parameter count", or the same of a definition: stores the node of the call at `at`.

@@ -51,7 +51,7 @@ fn is_vacant(w: &[u32; Machine::WORDS], p: usize, queue: u8, waits: u8, timers: 
 fn handles_of(kind: u32) -> usize
     ensures { (result ≡ once (eqb kind 3)) × (result ≤ 1) }
 {
-    if kind == CALLED_STATE { 1 } else { 0 }
+    usize::from(kind == CALLED_STATE)
 }
 
 // The marks say which tokens are in use, the counts how often the orders name each place. Open handles are gathered on the way. Where few

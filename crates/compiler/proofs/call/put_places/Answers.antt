@@ -3,5 +3,4 @@ use Rattle.compiler.proofs.CallPlaces.{places-stored}
 use Rattle.compiler.proofs.call.put_places.Goals as goal
 
 pub returns : goal.returns
-returns c = places-stored _ _ _ _ _ _ _ _ _ _ _ _ c.kind_word.ensures c.operand_word.ensures c.kind_word-2.ensures
-    c.operand_word-2.ensures c.put_four.ensures
+returns c = places-stored _ _ _ _ _ _ _ _ c.place_pair-first.ensures c.place_pair-second.ensures c.put_four.ensures
