@@ -4,7 +4,6 @@ ghost use Rattle.machine.specs.PublicCalls.{HasResult, step_on};
 use crate::lawful::lawful_marks;
 use acts::report::plain;
 use job::dag::WORDS;
-use job::wide::wide;
 use model::record::Machine;
 use model::reply::{Refusal, Reply, Report};
 use record::order::{Queue, count};
@@ -16,7 +15,7 @@ pub fn step(w: &mut [u32; Machine::WORDS], dag: &[u32; WORDS], place: usize) -> 
     let Some(mut marks) = lawful_marks(w, dag) else {
         return plain(Reply::Refused(Refusal::Rule));
     };
-    if wide(count::<Queue>(w)) <= place {
+    if count::<Queue>(w) as usize <= place {
         return plain(Reply::Refused(Refusal::NoToken));
     }
     let mut shared = [true; Machine::TOKENS];

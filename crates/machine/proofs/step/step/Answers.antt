@@ -8,10 +8,9 @@ use Rattle.machine.proofs.step.step.Goals as goal
 pub returns-in_default : goal.returns-in_default
 returns-in_default c = step-rule _ _ _ _ _ c.in_default.ensures.value refl c.plain.ensures
 
-pub returns-then-wide-place : goal.returns-then-wide-place
-returns-then-wide-place c = let a = c.in-Some.ensures.lawful in
-    step-no-token _ _ a _ _ (let e = c.count.ensures _ a.holds.codes in
-    let f = c.wide.ensures in omega arith) c.plain-then-wide-place.ensures
+pub returns-then-count-place : goal.returns-then-count-place
+returns-then-count-place c = let a = c.in-Some.ensures.lawful in
+    step-no-token _ _ a _ _ (let e = c.count.ensures _ a.holds.codes in omega arith) c.plain-then-count-place.ensures
 
 pub step-requires : goal.step-requires
 step-requires c = let a = c.in-Some.ensures.lawful in
@@ -20,8 +19,7 @@ step-requires c = let a = c.in-Some.ensures.lawful in
       is =
           record {
             lawful = a;
-            queued = (let e = c.count.ensures _ a.holds.codes in
-                let f = c.wide.ensures in omega arith);
+            queued = (let e = c.count.ensures _ a.holds.codes in omega arith);
           };
     }
 
@@ -31,8 +29,6 @@ returns c = let a = c.in-Some.ensures.lawful in
     (c.step.ensures _
     (record {
       lawful = a;
-      queued =
-          (let e = c.count.ensures _ a.holds.codes in
-          let f = c.wide.ensures in omega arith);
+      queued = (let e = c.count.ensures _ a.holds.codes in omega arith);
     })
     (all-shared a)).gives
