@@ -73,13 +73,5 @@ pub fn run(rest: &[u8], dag: &[u32; WORDS], output: &mut [u8], from: usize) -> u
     let mut words = [0u32; Machine::WORDS];
     let mut shared = [false; Machine::TOKENS];
     let mut marks = start(&mut words, dag[GOAL]);
-    run_turns(
-        &mut words,
-        &mut marks,
-        &mut shared,
-        rest,
-        dag,
-        output,
-        from,
-    )
+    run_turns(&mut words, &mut marks, &mut shared, rest, dag, output, from)
 }

@@ -36,7 +36,7 @@ impl Line<'_> {
 
     // (Inlined, so that a caller's case alone is left of the match.)
     #[inline(always)]
-    pub(crate) fn put(self, buffer: &mut [u8], at: usize) -> usize
+    pub fn put(self, buffer: &mut [u8], at: usize) -> usize
         requires { (at + 80 ≤ length buffer.old) × HasFewValues self }
         ensures { Written 80 buffer.old at (text_of (told self.entry)) buffer.new result }
     {

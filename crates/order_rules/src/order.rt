@@ -31,7 +31,7 @@ fn counted(names: &[u32]) -> Option<[u8; Machine::TOKENS]>
 }
 
 // How often an order names each place; nothing where it is none: names of places, and 0 behind the last one.
-fn order_counts<O: Order>(w: &[u32; Machine::WORDS]) -> Option<[u8; Machine::TOKENS]>
+pub fn order_counts<O: Order>(w: &[u32; Machine::WORDS]) -> Option<[u8; Machine::TOKENS]>
     ensures { (m : Machine) → Codes w.now m → CountedOnce O.which m result }
 {
     let n = wide(count::<O>(w));

@@ -87,10 +87,10 @@ module _ {ws dag : List ℕ} {used : Marks} {actor : Actor} {m : Machine} (a : A
         subst (Holds now) (sym (returned-swept paper (dag_of dag) m rules after actor.token f written returns s.cell s.binds n)) h,
         record {
           tokens = e
-            ∙ (ap (λ us. set us f false) a.taking.lawful.marks.tokens
-            ∙ (sym (returned-tokens paper (dag_of dag) m rules after actor.token f written returns s.cell s.binds n)
-            ∙ sym (sweep-tokens after)));
+              ∙ (ap (λ us. set us f false) a.taking.lawful.marks.tokens
+              ∙ (sym (returned-tokens paper (dag_of dag) m rules after actor.token f written returns s.cell s.binds n)
+              ∙ sym (sweep-tokens after)));
           cells = a.taking.lawful.marks.cells
-            ∙ (sym (returned-cells paper (dag_of dag) m rules after actor.token f written returns s.cell s.binds) ∙ sym (sweep-cells after));
+              ∙ (sym (returned-cells paper (dag_of dag) m rules after actor.token f written returns s.cell s.binds) ∙ sym (sweep-cells after));
         },
       )

@@ -11,11 +11,7 @@ use reach::used::Marks;
 use row_rules::range::sizes_in_range;
 
 // "14: dag or machine record breaks an index rule", or the words are no record's. The marks say which tokens and cells are in use.
-pub fn rules_hold(
-    w: &[u32; Machine::WORDS],
-    dag: &[u32; WORDS],
-    marks: &Marks,
-) -> bool
+pub fn rules_hold(w: &[u32; Machine::WORDS], dag: &[u32; WORDS], marks: &Marks) -> bool
     ensures { Tested w.now dag.now marks.now.tokens marks.now.cells result }
 {
     if !dag_holds(dag) {

@@ -14,12 +14,7 @@ use record::token::{copy, set_node};
 use writes::actor::Actor;
 
 // What a fork writes, with the right token at the place `new`.
-pub fn written(
-    w: &mut [u32; Machine::WORDS],
-    actor: Actor,
-    new: usize,
-    branches: Branches,
-)
+pub fn written(w: &mut [u32; Machine::WORDS], actor: Actor, new: usize, branches: Branches)
     requires { (actor.token < 64) × (new < 64) }
     ensures { let p = actor.token in (m : Machine) → Holds w.old m → actor.place < m.queued → m.queued < 64
         → Holds w.new
