@@ -10,6 +10,7 @@ use record::layout::{
     VALUE_SLOT, WAITING_STATE, WAITS_START,
 };
 use record::order::{CallOrder, Queue, WaitOrder};
+use record::token::SlotWords;
 use record::{cell, count, order, token};
 use row_rules::blank::{cell_is_blank, token_is_blank};
 use sites::number::signed;
@@ -43,14 +44,17 @@ fn place(rt: &impl Print, name: &str, word: u32) -> io::Result<()> {
     Ok(())
 }
 
-fn slot(rt: &impl Print, kind: u32, word: u32, x: usize) -> io::Result<()> {
-    match kind {
+fn slot(rt: &impl Print, words: SlotWords, x: usize) -> io::Result<()> {
+    match words.kind {
         EMPTY_SLOT => Ok(()),
         VALUE_SLOT => {
-            let value = signed(word);
+            let value = signed(words.number);
             print!(rt; " x{x} {value}")
         }
-        _ => print!(rt; " x{x} cell {word}"),
+        _ => {
+            let cell = words.number;
+            print!(rt; " x{x} cell {cell}")
+        }
     }
 }
 
@@ -58,12 +62,7 @@ fn bindings(rt: &impl Print, w: &[u32; Machine::WORDS], p: usize) -> io::Result<
     requires { p < 64 }
 {
     for x in 0..8 {
-        slot(
-            rt,
-            token::bind_kind(w, p, x),
-            token::bind_number(w, p, x),
-            x,
-        )?;
+        slot(rt, token::bind(w, p, x), x)?;
     }
     Ok(())
 }
