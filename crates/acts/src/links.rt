@@ -7,14 +7,14 @@ ghost use Rattle.acts.specs.Links.{NoLinks, binds_cell};
 
 use model::record::Machine;
 use record::layout::CELL_SLOT;
-use record::token::{bind_kind, caller, cell};
+use record::token::{bind, caller, cell};
 
 // Does the token at p bind a cell?
 pub fn binds_cell(w: &[u32; Machine::WORDS], p: usize) -> bool
     requires { p < 64 }
     ensures { (m : Machine) → Codes w.now m → result ≡ binds_cell (token_at m.tokens p).binds }
 {
-    (0..8).any(|x| bind_kind(w, p, x) == CELL_SLOT)
+    (0..8).any(|x| bind(w, p, x).kind == CELL_SLOT)
 }
 
 // Does it name a caller, a cell or a bound cell?

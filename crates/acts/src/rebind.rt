@@ -5,7 +5,7 @@ ghost use Rattle.model.specs.declared.record.Machine.{Machine};
 ghost use Rattle.record.specs.Changes.{dequeued};
 ghost use Rattle.model.specs.Machine.Update.{with_node, with_binding, put, enqueue};
 ghost use Rattle.model.specs.declared.token.Slot.{Slot};
-ghost use Rattle.record.specs.Layout.{slot_kind, slot_number};
+ghost use Rattle.record.specs.Layout.{slot_words};
 ghost use Rattle.job.specs.Words.{dag_of};
 ghost use Rattle.model.specs.Machine.Limits.{paper};
 ghost use Rattle.model.specs.Machine.Step as Step;
@@ -22,7 +22,7 @@ use model::record::Machine;
 use model::reply::{Reply, Report};
 use reach::used::Marks;
 use record::layout::{CELL_SLOT, EMPTY_SLOT, VALUE_SLOT};
-use record::token::{bind_kind, value};
+use record::token::{SlotWords, bind, value};
 use sweep::sweep::sweep;
 use writes::actor::Actor;
 use writes::dag::dag_word;
@@ -34,20 +34,19 @@ fn rebind(
     marks: &mut Marks,
     dag: &[u32; WORDS],
     actor: Actor,
-    kind: u32,
-    number: u32,
+    words: SlotWords,
 ) -> Report
     requires { (actor.token < 64) × (actor.row + 12 ≤ 12331) × (get_or dag.now (actor.row + 1) 0 < 8) }
     ensures { let p = actor.token in (m : Machine) (s : Slot) → Taking w.old marks.old dag.now actor m
-        → ((c : ℕ) → s ≡ slots.Cell c → ⊥) → slot_kind s ≡ kind → slot_number s ≡ number
+        → ((c : ℕ) → s ≡ slots.Cell c → ⊥) → slot_words s ≡ words
         → Gives (accepted replies.Done [] (enqueue p
         (put p (with_node (get_or dag.now (actor.row + 2) 0) (with_binding (get_or dag.now (actor.row + 1) 0) s (token_at m.tokens p)))
         (dequeued m actor.place)))) m w.new marks.new result }
 {
     let x = wide(dag_word(dag, actor.row + NAMED_NUMBER));
     let next = dag_word(dag, actor.row + NEXT_NODE);
-    let old = bind_kind(w, actor.token, x);
-    written(w, actor, x, kind, number, next);
+    let old = bind(w, actor.token, x).kind;
+    written(w, actor, x, words, next);
     if old == CELL_SLOT {
         sweep(w, marks);
     }
@@ -65,8 +64,11 @@ pub fn assign(
     ensures { (m : Machine) → Acting w.old marks.old dag.now actor 4 m
         → Gives (Step.step paper (dag_of dag.now) m actor.place) m w.new marks.new result }
 {
-    let number = value(w, actor.token);
-    rebind(w, marks, dag, actor, VALUE_SLOT, number)
+    let words = SlotWords {
+        kind: VALUE_SLOT,
+        number: value(w, actor.token),
+    };
+    rebind(w, marks, dag, actor, words)
 }
 
 // Remove: nothing.
@@ -80,5 +82,9 @@ pub fn remove(
     ensures { (m : Machine) → Acting w.old marks.old dag.now actor 5 m
         → Gives (Step.step paper (dag_of dag.now) m actor.place) m w.new marks.new result }
 {
-    rebind(w, marks, dag, actor, EMPTY_SLOT, 0)
+    let words = SlotWords {
+        kind: EMPTY_SLOT,
+        number: 0,
+    };
+    rebind(w, marks, dag, actor, words)
 }

@@ -16,7 +16,7 @@ use job::wide::wide;
 use model::record::Machine;
 use record::cell::parent;
 use record::layout::{BLANK_STATE, CELL_SLOT, FRAME_STATE};
-use record::token::{bind_kind, bind_number, caller, cell, state};
+use record::token::{bind, caller, cell, state};
 
 // Marks the chain of places from one on, by the number of the place that each links to, until it ends or comes to a marked place.
 fn mark_chain<L: Fn(usize) -> u32>(start: usize, marks: &mut [bool], link: L)
@@ -88,10 +88,11 @@ fn bound(w: &[u32; Machine::WORDS], p: usize, x: usize) -> usize
     requires { (p < 64) × (x < 8) }
     ensures { (m : Machine) → Codes w.now m → result ≡ place_number (bound_cell (get_or (token_at m.tokens p).binds x empty)) }
 {
-    if bind_kind(w, p, x) != CELL_SLOT {
+    let slot = bind(w, p, x);
+    if slot.kind != CELL_SLOT {
         return 0;
     }
-    wide(bind_number(w, p, x)) + 1
+    wide(slot.number) + 1
 }
 
 // Marks what a token's own cell and its bindings reach.

@@ -5,6 +5,7 @@ pub mod LayoutPart
 pub mod LayoutParts
 pub mod HoldsShape
 pub mod TokenRow
+pub mod SlotWords
 pub mod CellRow
 pub mod CountLaws
 pub mod OrderLaws

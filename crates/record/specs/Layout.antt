@@ -27,6 +27,7 @@ use Rattle.model.specs.declared.token.State.TheVariants as states
 use Rattle.model.specs.declared.token.Token.{Token}
 use Rattle.model.specs.declared.cell.Cell.{Cell}
 use Rattle.model.specs.declared.record.Machine.{Machine}
+use Rattle.record.specs.declared.token.SlotWords.{SlotWords}
 
 -- where the parts begin
 abbrev pub cells_start : ℕ
@@ -82,6 +83,10 @@ abbrev pub slot_number : Slot → ℕ
 slot_number slots.Empty = 0
 slot_number (slots.Value v) = unsigned v
 slot_number (slots.Cell c) = c
+
+-- a slot as its two words
+abbrev pub slot_words : Slot → SlotWords
+slot_words b = record { kind = slot_kind b; number = slot_number b }
 
 -- a token's row
 unfoldable pub row_of : Token → List ℕ

@@ -9,13 +9,20 @@ ghost use Rattle.model.specs.declared.token.State.{State};
 ghost use Rattle.model.specs.declared.token.Token.{Token};
 ghost use Rattle.record.specs.Holds.{Codes, Holds};
 ghost use Rattle.record.specs.Changes.{with_caller, with_cell};
-ghost use Rattle.record.specs.Layout.{state_kind, state_number, place_number, held_kind, held_number, slot_kind, slot_number};
+ghost use Rattle.record.specs.Layout.{state_kind, state_number, place_number, held_kind, held_number, slot_words};
 
 use crate::layout::{
     TOKEN_BIND_KIND, TOKEN_BIND_NUMBER, TOKEN_CALLER, TOKEN_CELL, TOKEN_NODE, TOKEN_STATE_NUMBER,
     TOKEN_VALUE, TOKEN_VALUE_KIND, TOKEN_WORDS,
 };
 use model::record::Machine;
+
+// A slot as its two words.
+#[derive(Clone, Copy)]
+pub struct SlotWords {
+    pub kind: u32,
+    pub number: u32,
+}
 
 pub fn state(w: &[u32; Machine::WORDS], p: usize) -> u32
     requires { p < 64 }
@@ -67,18 +74,15 @@ pub fn value(w: &[u32; Machine::WORDS], p: usize) -> u32
     w[TOKEN_WORDS * p + TOKEN_VALUE]
 }
 
-pub fn bind_kind(w: &[u32; Machine::WORDS], p: usize, x: usize) -> u32
+// The slot to which a variable is bound.
+pub fn bind(w: &[u32; Machine::WORDS], p: usize, x: usize) -> SlotWords
     requires { (p < 64) × (x < 8) }
-    ensures { (m : Machine) → Codes w.now m → result ≡ slot_kind (slot_at (token_at m.tokens p).binds x) }
+    ensures { (m : Machine) → Codes w.now m → result ≡ slot_words (slot_at (token_at m.tokens p).binds x) }
 {
-    w[TOKEN_WORDS * p + TOKEN_BIND_KIND + 2 * x]
-}
-
-pub fn bind_number(w: &[u32; Machine::WORDS], p: usize, x: usize) -> u32
-    requires { (p < 64) × (x < 8) }
-    ensures { (m : Machine) → Codes w.now m → result ≡ slot_number (slot_at (token_at m.tokens p).binds x) }
-{
-    w[TOKEN_WORDS * p + TOKEN_BIND_NUMBER + 2 * x]
+    SlotWords {
+        kind: w[TOKEN_WORDS * p + TOKEN_BIND_KIND + 2 * x],
+        number: w[TOKEN_WORDS * p + TOKEN_BIND_NUMBER + 2 * x],
+    }
 }
 
 pub fn set_node(w: &mut [u32; Machine::WORDS], p: usize, node: u32)
@@ -125,13 +129,13 @@ pub fn set_value(w: &mut [u32; Machine::WORDS], p: usize, kind: u32, number: u32
 }
 
 // The slot whose words these are, bound to a variable.
-pub fn set_bind(w: &mut [u32; Machine::WORDS], p: usize, x: usize, kind: u32, number: u32)
+pub fn set_bind(w: &mut [u32; Machine::WORDS], p: usize, x: usize, words: SlotWords)
     requires { (p < 64) × (x < 8) }
-    ensures { (m : Machine) (t : Token) (s : Slot) → Holds w.old (put p t m) → slot_kind s ≡ kind → slot_number s ≡ number
+    ensures { (m : Machine) (t : Token) (s : Slot) → Holds w.old (put p t m) → slot_words s ≡ words
         → Holds w.new (put p (with_binding x s t) m) }
 {
-    w[TOKEN_WORDS * p + TOKEN_BIND_KIND + 2 * x] = kind;
-    w[TOKEN_WORDS * p + TOKEN_BIND_NUMBER + 2 * x] = number;
+    w[TOKEN_WORDS * p + TOKEN_BIND_KIND + 2 * x] = words.kind;
+    w[TOKEN_WORDS * p + TOKEN_BIND_NUMBER + 2 * x] = words.number;
 }
 
 // The token at one place becomes that at another.

@@ -13,14 +13,14 @@ use job::dag::{NodeKind, PARAMETER_COUNT, PARAMETER_KIND, ROW_WORDS, VARIABLE, W
 use job::wide::wide;
 use model::record::Machine;
 use record::layout::{BLANK_STATE, FRAME_STATE, READY_STATE};
-use record::token::{bind_kind, caller, cell, state, value_kind};
+use record::token::{bind, caller, cell, state, value_kind};
 
 fn slot_is_bound(w: &[u32; Machine::WORDS], p: usize, x: u32) -> bool
     requires { p < 64 }
     ensures { (m : Machine) → Codes w.now m → result ≡ is_bound (slot_at (token_at m.tokens p).binds x) }
 {
     let at = wide(x);
-    at < 8 && 0 < bind_kind(w, p, at)
+    at < 8 && 0 < bind(w, p, at).kind
 }
 
 // Two words of a parameter: no empty variable.

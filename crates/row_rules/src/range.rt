@@ -18,7 +18,7 @@ use record::layout::{
     CALLED_STATE, CELL_PLACE_COUNT, CELL_SLOT, DUE_STATE, LAST_TIME, TOKEN_PLACE_COUNT,
     WAITING_STATE,
 };
-use record::token::{bind_kind, bind_number, caller, cell, state, state_number};
+use record::token::{bind, caller, cell, state, state_number};
 
 // A token's bindings: cells below 32.
 fn binds_in_range(w: &[u32; Machine::WORDS], p: usize) -> bool
@@ -28,7 +28,8 @@ fn binds_in_range(w: &[u32; Machine::WORDS], p: usize) -> bool
 {
     let mut ok = true;
     for x in 0..8 {
-        ok &= (bind_kind(w, p, x) != CELL_SLOT) | (bind_number(w, p, x) < CELL_PLACE_COUNT);
+        let slot = bind(w, p, x);
+        ok &= (slot.kind != CELL_SLOT) | (slot.number < CELL_PLACE_COUNT);
     }
     ok
 }

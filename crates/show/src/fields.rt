@@ -8,6 +8,7 @@ use record::layout::{
     BLANK_STATE, CALLED_STATE, DUE_STATE, EMPTY_SLOT, READY_STATE, VALUE_SLOT, WAITING_STATE,
 };
 use record::order::{CallOrder, Order, Queue, WaitOrder};
+use record::token::SlotWords;
 use record::{cell, count, order, token};
 use row_rules::blank::{cell_is_blank, token_is_blank};
 use sites::number::signed;
@@ -41,14 +42,17 @@ fn place(rt: &impl Print, name: &str, word: u32) -> io::Result<()> {
     Ok(())
 }
 
-fn slot(rt: &impl Print, kind: u32, word: u32, x: usize) -> io::Result<()> {
-    match kind {
+fn slot(rt: &impl Print, words: SlotWords, x: usize) -> io::Result<()> {
+    match words.kind {
         EMPTY_SLOT => Ok(()),
         VALUE_SLOT => {
-            let value = signed(word);
+            let value = signed(words.number);
             print!(rt; " x{x} {value}")
         }
-        _ => print!(rt; " x{x} cell {word}"),
+        _ => {
+            let cell = words.number;
+            print!(rt; " x{x} cell {cell}")
+        }
     }
 }
 
@@ -56,12 +60,7 @@ fn bindings(rt: &impl Print, w: &[u32; Machine::WORDS], p: usize) -> io::Result<
     requires { p < 64 }
 {
     for x in 0..8 {
-        slot(
-            rt,
-            token::bind_kind(w, p, x),
-            token::bind_number(w, p, x),
-            x,
-        )?;
+        slot(rt, token::bind(w, p, x), x)?;
     }
     Ok(())
 }

@@ -46,15 +46,14 @@ fn variable_argument(
     requires { (p < 64) × (x < 8) }
     ensures { (m : Machine) → Codes w.now m → LookFacts m p → result ≡ found_of m.cells (slot_at (token_at m.tokens p).binds x) }
 {
-    let kind = token::bind_kind(w, p, x);
-    let number = token::bind_number(w, p, x);
-    if kind == EMPTY_SLOT {
+    let slot = token::bind(w, p, x);
+    if slot.kind == EMPTY_SLOT {
         return Ok(None);
     }
-    if kind == VALUE_SLOT {
-        return Ok(Some(signed(number)));
+    if slot.kind == VALUE_SLOT {
+        return Ok(Some(signed(slot.number)));
     }
-    cell_argument(w, number)
+    cell_argument(w, slot.number)
 }
 
 // The value of the parameter whose kind stands at a word of the dag, and its number behind it.

@@ -20,9 +20,7 @@ use model::record::Machine;
 use record::count::set_last_token;
 use record::layout::{FRAME_STATE, READY_STATE, VALUE_SLOT};
 use record::order::{Queue, replace};
-use record::token::{
-    bind_kind, bind_number, cell, set_bind, set_caller, set_cell, set_node, set_state,
-};
+use record::token::{SlotWords, bind, cell, set_bind, set_caller, set_cell, set_node, set_state};
 use writes::actor::Actor;
 use writes::dag::dag_word;
 
@@ -34,12 +32,15 @@ fn pass(w: &mut [u32; Machine::WORDS], p: usize, new: usize, i: usize, kind: u32
 {
     if kind == VARIABLE {
         let x = wide(number);
-        let slot = bind_kind(w, p, x);
-        let bound = bind_number(w, p, x);
-        set_bind(w, new, i, slot, bound);
+        let slot = bind(w, p, x);
+        set_bind(w, new, i, slot);
         return;
     }
-    set_bind(w, new, i, VALUE_SLOT, number);
+    let value = SlotWords {
+        kind: VALUE_SLOT,
+        number,
+    };
+    set_bind(w, new, i, value);
 }
 
 // "only its formals bound"

@@ -14,7 +14,7 @@ use record::cell::put_unset;
 use record::count::{set_last_cell, set_last_token};
 use record::layout::CELL_SLOT;
 use record::order::{Queue, join, replace};
-use record::token::{cell, copy, set_bind, set_cell, set_node};
+use record::token::{SlotWords, cell, copy, set_bind, set_cell, set_node};
 use writes::actor::Actor;
 
 // The two tokens: the right one is a copy at the place `new`, in the cell c; the left one binds x to c.
@@ -35,7 +35,11 @@ fn split_tokens(
     copy(w, actor.token, new);
     set_node(w, new, branches.right);
     set_cell(w, new, c as u32 + 1);
-    set_bind(w, actor.token, x, CELL_SLOT, c as u32);
+    let slot = SlotWords {
+        kind: CELL_SLOT,
+        number: c as u32,
+    };
+    set_bind(w, actor.token, x, slot);
     set_node(w, actor.token, branches.left);
 }
 

@@ -18,8 +18,8 @@ use Rattle.sites.proofs.LookParams.{none-bound, params-count}
 use Rattle.record.specs.Holds.{Holds}
 use Rattle.record.proofs.HoldsShape.{shaped}
 use Rattle.writes.proofs.Writes.{put_same}
-use Rattle.tail_writes.specs.Passing.{slot_words}
-use Rattle.tail_writes.specs.declared.passing.SlotWords.{SlotWords}
+use Rattle.record.specs.Layout.{slot_words}
+use Rattle.record.specs.declared.token.SlotWords.{SlotWords}
 
 -- a write to a list, and to the words of its elements
 map-set : {A B : Type 0} (f : A → B) (l : List A) (i : ℕ) (x : A) → map f (set l i x) ≡ set (map f l) i (f x)

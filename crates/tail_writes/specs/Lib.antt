@@ -1,3 +1,2 @@
--- A node of a dag that keeps the rules; bindings as words.
+-- A node of a dag that keeps the rules.
 pub mod Tail
-pub mod Passing

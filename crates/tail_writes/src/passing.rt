@@ -10,23 +10,16 @@ ghost use Rattle.model.specs.declared.token.Slot.{Slot};
 ghost use Rattle.model.specs.declared.token.Token.{Token};
 ghost use Rattle.record.specs.Changes.{with_binds};
 ghost use Rattle.record.specs.Holds.{Codes, Holds};
+ghost use Rattle.record.specs.Layout.{slot_words};
 ghost use Rattle.sites.specs.Row.{ParamsHold, params_at};
-ghost use Rattle.tail_writes.specs.Passing.{slot_words};
 
 use job::dag::{PARAMETER_COUNT, PARAMETER_KIND, PARAMETER_WORD, VARIABLE, WORDS};
 use job::wide::wide;
 use model::record::Machine;
 use record::layout::{EMPTY_SLOT, VALUE_SLOT};
-use record::token::{bind_kind, bind_number, set_bind};
+use record::token::{SlotWords, bind, set_bind};
 use writes::actor::Actor;
 use writes::dag::dag_word;
-
-// A slot as its two words.
-#[derive(Clone, Copy)]
-pub(crate) struct SlotWords {
-    kind: u32,
-    number: u32,
-}
 
 // "A variable's binding is passed on as it is, its cell set or unset": what one parameter passes on, by its kind and word.
 fn passed(w: &[u32; Machine::WORDS], p: usize, kind: u32, number: u32) -> SlotWords
@@ -34,11 +27,7 @@ fn passed(w: &[u32; Machine::WORDS], p: usize, kind: u32, number: u32) -> SlotWo
     ensures { (m : Machine) → Codes w.now m → result ≡ slot_words (passed (token_at m.tokens p).binds (param_of kind number)) }
 {
     if kind == VARIABLE {
-        let x = wide(number);
-        return SlotWords {
-            kind: bind_kind(w, p, x),
-            number: bind_number(w, p, x),
-        };
+        return bind(w, p, wide(number));
     }
     SlotWords {
         kind: VALUE_SLOT,
@@ -75,7 +64,7 @@ pub(crate) fn bind_slots(w: &mut [u32; Machine::WORDS], p: usize, slots: &[SlotW
     ensures { (m : Machine) (t : Token) (bs : List Slot) → Holds w.old (put p t m) → length bs ≡ 8
         → slots.now ≡ map slot_words bs → Holds w.new (put p (with_binds bs t) m) }
 {
-    for (x, slot) in slots.iter().enumerate() {
-        set_bind(w, p, x, slot.kind, slot.number);
+    for (x, &slot) in slots.iter().enumerate() {
+        set_bind(w, p, x, slot);
     }
 }

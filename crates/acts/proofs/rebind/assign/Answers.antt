@@ -1,6 +1,8 @@
 -- `rebind::assign` meets its contract: the token's value is bound. Assumes nothing.
 use Rattle.acts.proofs.EndRebind.{gives_as, value-bits, value-no-cell}
 use Rattle.acts.proofs.StepAtNode.{assign-step}
+use Rattle.record.specs.Layout.{slot_words}
+use Rattle.record.proofs.SlotWords.{both-of}
 use Rattle.sites.proofs.RowKinds.{assign-numbers}
 use Rattle.acts.proofs.Outcomes.{row, row_fits, token-inside}
 use Rattle.model.specs.Machine.Blank.{token_at}
@@ -9,8 +11,8 @@ use Rattle.model.specs.declared.token.Slot.TheVariants as slots
 use mathlib.Core.Path.{refl, sym, ◌∙◌}
 use Rattle.acts.proofs.rebind.assign.Goals as goal
 
-pub value-number-requires : goal.value-number-requires
-value-number-requires c = token-inside c.requires.is.taking
+pub value-requires : goal.value-requires
+value-requires c = token-inside c.requires.is.taking
 
 pub rebind-requires : goal.rebind-requires
 rebind-requires c =
@@ -19,7 +21,8 @@ rebind-requires c =
 
 pub returns : goal.returns
 returns c = λ m a.
-    let v = (token_at m.tokens c.args.actor.token).value in
-    let number = sym (c.value-number.ensures m a.taking.lawful.holds.codes ∙ value-bits v) in
+    let held = (token_at m.tokens c.args.actor.token).value in
+    let v = slots.Value (value_of held) in
+    let number = c.value.ensures m a.taking.lawful.holds.codes ∙ value-bits held in
     gives_as (assign-step _ _ m a)
-    (c.rebind.ensures m (slots.Value (value_of v)) a.taking (value-no-cell _) refl number)
+    (c.rebind.ensures m v a.taking (value-no-cell _) (sym (both-of (slot_words v) refl number)))

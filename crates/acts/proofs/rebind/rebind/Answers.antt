@@ -3,13 +3,14 @@
 use mathlib.Core.Path.{refl, sym, ◌∙◌}
 use Rattle.acts.proofs.EndRebind.{gives_as, rebound-as, rebind-vacant, rebind-gives, no_cell}
 use Rattle.acts.proofs.Outcomes.{gives-swept}
+use Rattle.record.proofs.SlotWords.{kind-of}
 use Rattle.model.specs.declared.reply.Reply.TheVariants as replies
 use Rattle.acts.proofs.rebind.rebind.Goals as goal
 use Rattle.acts.proofs.rebind.rebind.Goals.{then-old-eq-CELL_SLOT, else-old-eq-CELL_SLOT}
 
 pub returns : goal.returns
-returns c = λ m s a n e f.
-    let holds = c.written.ensures m s a.lawful.holds a.queued e f in
+returns c = λ m s a n e.
+    let holds = c.written.ensures m s a.lawful.holds a.queued e in
     gives_as (rebound-as m c.args.actor s (sym (c.wide-x.ensures ∙ c.dag_word.ensures)) (sym c.dag_word-next.ensures))
     (elim c.if-old-eq-CELL_SLOT.branch [
       | then-old-eq-CELL_SLOT w ↦
@@ -18,5 +19,5 @@ returns c = λ m s a n e f.
       | else-old-eq-CELL_SLOT w ↦
           rw (w.w-is, w.marks-is)
           (rebind-gives a _ _ s _ c.plain.ensures
-          (no_cell _ _ (c.bind_kind-old.ensures m a.lawful.holds.codes) w.if-old-eq-CELL_SLOT.false) n holds)
+          (no_cell _ _ (kind-of (c.bind-old.ensures m a.lawful.holds.codes)) w.if-old-eq-CELL_SLOT.false) n holds)
     ])

@@ -14,4 +14,4 @@ rebind-requires c =
 
 pub returns : goal.returns
 returns c = λ m a.
-    gives_as (remove-step _ _ m a) (c.rebind.ensures m slots.Empty a.taking empty-no-cell refl refl)
+    gives_as (remove-step _ _ m a) (c.rebind.ensures m slots.Empty a.taking empty-no-cell refl)

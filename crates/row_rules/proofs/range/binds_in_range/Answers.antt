@@ -1,9 +1,10 @@
 -- `range::binds_in_range` meets its contract: after x turns the flag says whether the first x bindings are in range. Assumes nothing.
 use mathlib.Core.Bool.{not, ◌||◌}
-use mathlib.Core.Path.{◌∙◌, ap₂}
+use mathlib.Core.Path.{◌∙◌, ap}
 use native.Mathlib.Omega.{arith}
 use lib.Dec.{eqb, ltb}
 use Rattle.model.specs.declared.token.Slot.{Slot}
+use Rattle.record.specs.declared.token.SlotWords.{SlotWords}
 use Rattle.model.specs.Machine.Rules.{slot_in_range}
 use Rattle.model.specs.Machine.Blank.{empty, token_at, slot_at}
 use Rattle.job.specs.Test.{for_all}
@@ -23,7 +24,7 @@ loop-x-preserved c = λ m h.
     let p = c.args.p in
     all-turn (slot_in_range 32) (token_at m.tokens p).binds now.x empty
     (omega (arith, h.codes.shaped.binds p)) (now.invariant m h)
-    (ap₂ (λ k n. not (eqb k 2) || ltb n 32) (c.bind_kind.ensures m h.codes) (c.bind_number.ensures m h.codes)
+    (ap (λ (s : SlotWords). not (eqb s.kind 2) || ltb s.number 32) (c.bind-slot.ensures m h.codes)
     ∙ slot-in (slot_at (token_at m.tokens p).binds now.x) (h.slots p now.x))
 
 pub returns : goal.returns

@@ -5,18 +5,19 @@ use borrow.Author.Rules.{rules}
 use mir.Syntax.{w32}
 use mir.Val.{SFits}
 use mir.Facts.{to_z-of_z}
+use Rattle.record.proofs.SlotWords.{kind-of, number-of}
 use Rattle.sites.proofs.LookLaws.{variable-value, variable-cell}
 use Rattle.std.specs.Prelude.{Some, Ok}
 use Rattle.sites.proofs.look.variable_argument.Goals as goal
 
-pub returns-then-kind-eq-VALUE_SLOT : goal.returns-then-kind-eq-VALUE_SLOT
-returns-then-kind-eq-VALUE_SLOT c = λ m h o.
+pub returns-then-slot-eq-VALUE_SLOT : goal.returns-then-slot-eq-VALUE_SLOT
+returns-then-slot-eq-VALUE_SLOT c = λ m h o.
     let f : SFits w32 c.signed.result = search rules in
     rw (to_z-of_z f)
-    (ap (λ v. Ok (Some v)) c.signed.ensures ∙ variable-value m _ _ _ _ o (c.bind_kind-kind.ensures m h)
-    (c.bind_number-number.ensures m h) c.if-kind-eq-VALUE_SLOT.true)
+    (ap (λ v. Ok (Some v)) c.signed.ensures ∙ variable-value m _ _ _ _ o (kind-of (c.bind-slot.ensures m h))
+    (number-of (c.bind-slot.ensures m h)) c.if-slot-eq-VALUE_SLOT.true)
 
 pub returns : goal.returns
-returns c = λ m h o. variable-cell m _ _ _ _ o (c.bind_kind-kind.ensures m h)
-    (c.bind_number-number.ensures m h) _ c.if-kind-eq-EMPTY_SLOT.false c.if-kind-eq-VALUE_SLOT.false
+returns c = λ m h o. variable-cell m _ _ _ _ o (kind-of (c.bind-slot.ensures m h))
+    (number-of (c.bind-slot.ensures m h)) _ c.if-slot-eq-EMPTY_SLOT.false c.if-slot-eq-VALUE_SLOT.false
     (c.cell_argument.ensures m h)

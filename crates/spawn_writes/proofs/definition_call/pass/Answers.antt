@@ -2,8 +2,8 @@
 -- nothing.
 use Rattle.sites.proofs.LookParams.{below, slot-variable, slot-constant}
 use Rattle.writes.proofs.Writes.{put_other, carry-slot}
-use Rattle.sites.proofs.LookParams.{slot-variable, slot-constant}
-use Rattle.record.specs.Layout.{slot_kind, slot_number}
+use Rattle.record.specs.Layout.{slot_words}
+use Rattle.record.proofs.SlotWords.{both-of}
 use Rattle.job.proofs.Number.{unsigned_signed}
 use Rattle.model.specs.declared.token.Token.{Token}
 use Rattle.model.specs.declared.token.Slot.TheVariants as slots
@@ -14,19 +14,11 @@ use mathlib.Core.Path.{refl, sym, ap, ◌∙◌}
 use borrow.Author.Rules.{rules}
 use Rattle.spawn_writes.proofs.definition_call.pass.Goals as goal
 
-pub bind_kind-slot-requires : goal.bind_kind-slot-requires
-bind_kind-slot-requires c = (
+pub bind-slot-requires : goal.bind-slot-requires
+bind-slot-requires c = (
   search rules,
   below c.args.kind c.args.number
       c.requires.3 c.if-kind-eq-VARIABLE.true c.wide-x.ensures,
-)
-
-pub bind_number-bound-requires : goal.bind_number-bound-requires
-bind_number-bound-requires c = (
-  search rules,
-  below c.args.kind c.args.number
-      c.requires.3 c.if-kind-eq-VARIABLE.true
-      c.wide-x.ensures,
 )
 
 pub returns-then-kind-eq-VARIABLE : goal.returns-then-kind-eq-VARIABLE
@@ -34,17 +26,15 @@ returns-then-kind-eq-VARIABLE c = λ m t h n.
     let a = c.args in
     let bs = (token_at m.tokens a.p).binds in
     let here = ap (λ (u : Token). slot_at u.binds a.number) (put_other m a.new a.p t n) in
-    let x = c.wide-x.ensures in
-    let kind = c.bind_kind-slot.ensures _ h.codes
-    ∙ ap (λ i. slot_kind (slot_at (token_at (put a.new t m).tokens a.p).binds i)) x ∙ ap slot_kind here in
-    let number = c.bind_number-bound.ensures _ h.codes
-    ∙ ap (λ i. slot_number (slot_at (token_at (put a.new t m).tokens a.p).binds i)) x ∙ ap slot_number here in
+    let words = c.bind-slot.ensures _ h.codes
+    ∙ ap (λ i. slot_words (slot_at (token_at (put a.new t m).tokens a.p).binds i)) c.wide-x.ensures ∙ ap slot_words here in
     carry-slot m a.new a.i t
     (slot-variable bs a.kind a.number c.if-kind-eq-VARIABLE.true)
-    (c.set_bind.ensures m t (slot_at bs a.number) h (sym kind) (sym number))
+    (c.set_bind.ensures m t (slot_at bs a.number) h (sym words))
 
 pub returns : goal.returns
 returns c = λ m t h n.
     let a = c.args in
+    let value = slots.Value (signed a.number) in
     carry-slot m a.new a.i t (slot-constant (token_at m.tokens a.p).binds a.kind a.number c.if-kind-eq-VARIABLE.false)
-    (c.set_bind-2.ensures m t (slots.Value (signed a.number)) h refl (unsigned_signed a.number (search rules)))
+    (c.set_bind-2.ensures m t value h (both-of _ refl (unsigned_signed a.number (search rules))))

@@ -21,5 +21,5 @@ returns c = λ m h n.
     let u = with_node a.branches.left (with_binding a.x (slots.Cell a.c) t) in
     let there = begins (put a.new v m) a.actor.token t (put_other m a.new a.actor.token v n) right in
     let left = c.set_node-2.ensures (put a.new v m) _
-    (c.set_bind.ensures (put a.new v m) t (slots.Cell a.c) there refl refl) in
+    (c.set_bind.ensures (put a.new v m) t (slots.Cell a.c) there refl) in
     subst (Holds _) (put-comm m a.actor.token a.new u v n) left

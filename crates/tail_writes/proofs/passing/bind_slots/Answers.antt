@@ -5,7 +5,6 @@ use lib.ListN.{get_or}
 use lib.Seq.{paste-zero}
 use Rattle.model.specs.Machine.Blank.{empty}
 use Rattle.model.specs.Machine.Update.{with_binding}
-use Rattle.tail_writes.specs.declared.passing.SlotWords.{SlotWords}
 use Rattle.writes.proofs.Writes.{carry-binds}
 use Rattle.tail_writes.proofs.PassingWords.{slot-at, bound-on, bound-whole, binds-long}
 use Rattle.tail_writes.proofs.passing.bind_slots.Goals as goal
@@ -20,8 +19,7 @@ loop-x-preserved c = λ m t bs h size o.
     let words = slot-at bs l.x o in
     carry-binds m a.p t (bound-on t.binds bs (binds-long m a.p t h c.requires) size l.x (omega arith))
     (unfold with_binding in
-    c.set_bind.ensures m _ (get_or bs l.x empty) (l.invariant m t bs h size o) (ap (λ (s : SlotWords). s.kind) words)
-    (ap (λ (s : SlotWords). s.number) words))
+    c.set_bind.ensures m _ (get_or bs l.x empty) (l.invariant m t bs h size o) words)
 
 pub returns : goal.returns
 returns c = λ m t bs h size o.

@@ -8,7 +8,7 @@ use Rattle.model.specs.declared.token.Slot.{Slot}
 use Rattle.model.specs.declared.token.Token.{Token}
 use Rattle.record.specs.Changes.{with_binds}
 use Rattle.record.specs.Holds.{Holds}
-use Rattle.tail_writes.specs.Passing.{slot_words}
+use Rattle.record.specs.Layout.{slot_words}
 use Rattle.tail_writes.proofs.passing.bind_slots.Given as goal
 
 abbrev pub invariant-loop-x : goal.invariant-loop-x

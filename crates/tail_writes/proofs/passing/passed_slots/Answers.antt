@@ -6,7 +6,7 @@ use borrow.Author.Rules.{rules}
 use Rattle.model.specs.Machine.Blank.{token_at}
 use Rattle.model.specs.Machine.Step.{passed}
 use Rattle.sites.proofs.LookParams.{param-holds, param-bound, params-bound}
-use Rattle.tail_writes.specs.Passing.{slot_words}
+use Rattle.record.specs.Layout.{slot_words}
 use Rattle.tail_writes.proofs.PassingWords.{none_read, slot_read}
 use Rattle.tail_writes.proofs.passing.passed_slots.Goals as goal
 

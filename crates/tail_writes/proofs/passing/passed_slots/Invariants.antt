@@ -7,7 +7,7 @@ use Rattle.model.specs.Machine.Step.{formals_bound}
 use Rattle.model.specs.declared.record.Machine.{Machine}
 use Rattle.record.specs.Holds.{Codes}
 use Rattle.sites.specs.Row.{params_at}
-use Rattle.tail_writes.specs.Passing.{slot_words}
+use Rattle.record.specs.Layout.{slot_words}
 use Rattle.tail_writes.proofs.passing.passed_slots.Given as goal
 
 abbrev pub invariant-loop-i : goal.invariant-loop-i
