@@ -141,26 +141,3 @@ kind-below d a b c ps kind e = go (dec_lt kind 10)
     go (yes l) = l
     go (no f) = clash
         (subst (λ n. node_holds d n ≡ true) (get_or-eq_default (nodes_by_kind a b c ps) Node.unknown {n = kind} (omega arith)) e) refl
-
--- the kind that is left is the last one
-low-kinds : (k : ℕ) → (k ≡ 0 → ⊥) → (k ≡ 1 → ⊥) → (k ≡ 2 → ⊥) → (k ≡ 3 → ⊥) → (k ≡ 4 → ⊥) → 5 ≤ k
-low-kinds k a b c d e = omega arith
-
-from-five : (k : ℕ) → k < 10 → 5 ≤ k → (k ≡ 5 → ⊥) → (k ≡ 6 → ⊥) → (k ≡ 7 → ⊥) → (k ≡ 8 → ⊥) → k ≡ 9
-from-five k l low f g h i = omega arith
-
-pub last-kind :
-    (k : ℕ)
-    → k < 10
-    → (k ≡ 0 → ⊥)
-    → (k ≡ 1 → ⊥)
-    → (k ≡ 2 → ⊥)
-    → (k ≡ 3 → ⊥)
-    → (k ≡ 4 → ⊥)
-    → (k ≡ 5 → ⊥)
-    → (k ≡ 6 → ⊥)
-    → (k ≡ 7 → ⊥)
-    → (k ≡ 8 → ⊥)
-    → k ≡ 9
-last-kind k l a b c d e f g h i =
-    from-five k l (low-kinds k a b c d e) f g h i
