@@ -10,9 +10,9 @@ use crate::line::Line;
 // A caller's output, which shows the printed bytes from `from` on; `total` are printed so far.
 #[derive(Drop)]
 pub struct Window<'a> {
-    output: &'a mut [u8],
-    from: usize,
-    total: usize,
+    pub output: &'a mut [u8],
+    pub from: usize,
+    pub total: usize,
 }
 
 impl<'a> Window<'a> {
@@ -61,7 +61,7 @@ impl<'a> Window<'a> {
     }
 
     // The bytes of a line.
-    fn show_bytes(&mut self, line: &[u8])
+    pub fn show_bytes(&mut self, line: &[u8])
         requires { self.old.total + length line.now ≤ 1000000000 }
         ensures { ShowsMore self.old self.new line.now }
     {

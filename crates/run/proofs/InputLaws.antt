@@ -21,10 +21,10 @@ module _ (s : List ℕ) (n e : ℕ) (l : 4 ≤ length s) (h : n ≡ get_or s 2 0
   sized : table_length s ≡ e
   sized = let z = half_at s 2 (omega arith) in omega arith
 
-  table-cut : length s < e → length s ≡ table_end s
+  pub table-cut : length s < e → length s ≡ table_end s
   table-cut f = ends-all s (omega (arith, sized))
 
-  table-there : e ≤ length s → e ≡ table_end s
+  pub table-there : e ≤ length s → e ≡ table_end s
   unfolding table_end
   table-there f = rw (le-leb (table_length s) (length s) (omega (arith, sized)), table_end) (sym sized)
 
