@@ -15,6 +15,18 @@ pub struct Window<'a> {
     pub total: usize,
 }
 
+// The byte behind the first `total`.
+fn show_byte(output: &mut [u8], from: usize, total: usize, byte: u8)
+    ensures { output.new ≡ with_byte output.old from total byte }
+{
+    if from <= total {
+        let i = total - from;
+        if i < output.len() {
+            output[i] = byte;
+        }
+    }
+}
+
 impl<'a> Window<'a> {
     pub fn new(output: &'a mut [u8], from: usize) -> Window<'a>
         ensures same_reference { result.output.ghost_name ≡ output.entry.ghost_name }
@@ -44,30 +56,20 @@ impl<'a> Window<'a> {
         self.from <= self.total && self.total - self.from + Line::LONGEST <= self.output.len()
     }
 
-    fn show_byte(&mut self, byte: u8)
-        requires { self.old.total < 1000000000 }
-        ensures same_reference { self.new.output.ghost_name ≡ self.old.output.ghost_name }
-        ensures from { self.new.from ≡ self.old.from }
-        ensures output { self.new.output.now ≡ with_byte self.old.output.now self.old.from self.old.total byte }
-        ensures total { self.new.total ≡ self.old.total + 1 }
-    {
-        if self.from <= self.total {
-            let i = self.total - self.from;
-            if i < self.output.len() {
-                self.output[i] = byte;
-            }
-        }
-        self.total += 1;
-    }
-
     // The bytes of a line.
     pub fn show_bytes(&mut self, line: &[u8])
         requires { self.old.total + length line.now ≤ 1000000000 }
         ensures { ShowsMore self.old self.new line.now }
     {
+        // in locals, so that a byte's store does not wait for the window's own words
+        let output = &mut *self.output;
+        let from = self.from;
+        let mut total = self.total;
         for &byte in line {
-            self.show_byte(byte);
+            show_byte(output, from, total, byte);
+            total += 1;
         }
+        self.total = total;
     }
 
     // Shows a line behind the bytes that are printed. Where there may be no room for it, it is put into a buffer first.

@@ -1,13 +1,11 @@
 -- The names of an order among the words, and what it says of each token, from how often it names each place. Assumes nothing: these are
 -- definitions.
-use Rattle.std.specs.Prelude.{◌≡◌, Bool, true, false, List, ℕ, zero, suc, ◌+◌, Option, Some, MatchOption, get_or, eqb}
+use Rattle.std.specs.Prelude.{◌≡◌, Bool, true, false, List, ℕ, zero, suc, ◌+◌, Option, MatchOption, get_or, eqb}
 use Rattle.job.specs.Test.{◌and◌, all_from, once}
 use Rattle.model.specs.Machine.Rules.{names_once}
 use Rattle.model.specs.declared.token.Token.{Token}
 use Rattle.model.specs.declared.record.Machine.{Machine}
 use Rattle.record.specs.Layout.{state_kind}
-use Rattle.record.specs.OrderWords as orders
-use Rattle.order_rules.specs.declared.order.OrderCounts.{OrderCounts}
 use Rattle.record.specs.OrderWords.{Which, state_of, in_state, array_of, count_of}
 
 -- a token in the state of that kind is named once, any other never
@@ -22,13 +20,6 @@ order_rule k m = names_once (in_state k) m.tokens (array_of k m) (count_of k m)
 abbrev pub CountedOnce : Which → Machine → Option (List ℕ) → Type 0
 CountedOnce k m counts =
     MatchOption counts (order_rule k m ≡ false) (λ c. all_from (named_as (state_of k) c) 0 m.tokens ≡ order_rule k m)
-
--- .. of all three
-abbrev pub AllCounted : Machine → Option OrderCounts → Type 0
-AllCounted m counts =
-    MatchOption counts ((order_rule orders.queue m and order_rule orders.waits m and order_rule orders.timers m) ≡ false)
-    (λ c. CountedOnce orders.queue m (Some c.queue) × CountedOnce orders.waits m (Some c.waits)
-    × CountedOnce orders.timers m (Some c.timers))
 
 -- the queue names the ready ones, the wait order those that wait, the order of call those that are due later
 abbrev pub named_by_orders : (queue waits timers : List ℕ) → ℕ → Token → Bool

@@ -4,14 +4,13 @@ ghost use Rattle.std.specs.Prelude.{◌≡◌, false, true, ℕ, ◌≤◌, ◌<
 ghost use Rattle.job.specs.Test.{◌and◌, for_all, occurrences, once};
 ghost use Rattle.model.specs.declared.record.Machine.{Machine};
 ghost use Rattle.record.specs.Holds.{Codes};
-ghost use Rattle.record.specs.OrderWords.{Which, queue, waits, timers};
-ghost use Rattle.order_rules.specs.OrderCounts.{CountedOnce, AllCounted, each_from, unnamed};
+ghost use Rattle.order_rules.specs.OrderCounts.{CountedOnce, each_from, unnamed};
 
 use job::wide::wide;
 use model::record::Machine;
 use orders::zero::all_zero;
 use record::layout::{DUE_STATE, READY_STATE, TOKEN_PLACE_COUNT, WAITING_STATE};
-use record::order::{CallOrder, Order, Queue, WaitOrder, count};
+use record::order::{Order, count};
 
 // How often each place stands among the names; nothing where one names no place of tokens.
 fn counted(names: &[u32]) -> Option<[u8; Machine::TOKENS]>
@@ -53,19 +52,6 @@ pub struct OrderCounts {
     pub queue: [u8; Machine::TOKENS],
     pub waits: [u8; Machine::TOKENS],
     pub timers: [u8; Machine::TOKENS],
-}
-
-impl OrderCounts {
-    // Those of a record; nothing where one of the three is no order.
-    pub fn read(w: &[u32; Machine::WORDS]) -> Option<OrderCounts>
-        ensures { (m : Machine) → Codes w.now m → AllCounted m result }
-    {
-        Some(OrderCounts {
-            queue: order_counts::<Queue>(w)?,
-            waits: order_counts::<WaitOrder>(w)?,
-            timers: order_counts::<CallOrder>(w)?,
-        })
-    }
 }
 
 // Is a place named so often by each of the orders as a token in that state asks?

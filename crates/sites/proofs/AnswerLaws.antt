@@ -3,8 +3,8 @@
 use mathlib.Core.Path.{◌≡◌, refl, sym, ap, subst, ◌∙◌}
 use mathlib.Core.Bool.{Bool, true, false}
 use mathlib.Core.List.{List}
-use Prim.Native.Nat.{ℕ, suc, ◌+◌, ◌<◌, ◌≤◌}
-use native.Mathlib.Decide.{dec_lt}
+use Prim.Native.Nat.{ℕ, suc, ◌+◌, ◌*◌, ◌<◌, ◌≤◌}
+use native.Mathlib.Decide.{ℕ_discrete, dec_lt}
 use native.Mathlib.Numerals.{add-one}
 use native.Mathlib.Omega.{arith}
 use lib.ListN.{length, get_or, drop, drop_of_length-le, get_or-eq_default}
@@ -27,7 +27,7 @@ use Rattle.model.specs.declared.token.State.{State}
 use Rattle.model.specs.declared.token.State.TheVariants as states
 use Rattle.model.specs.declared.token.Token.{Token}
 use Rattle.model.specs.declared.record.Machine.{Machine}
-use Rattle.job.proofs.Test.{clash}
+use Rattle.job.proofs.Test.{clash, eq-eqb, ne_eqb}
 use Rattle.model.proofs.Machine.Within.{holder-holds}
 use Rattle.record.specs.Holds.{Codes, Holds}
 use Rattle.record.specs.Layout.{state_kind, state_number}
@@ -117,6 +117,31 @@ module _ (h k n : ℕ) (s : State) (ek : k ≡ state_kind s) (en : n ≡ state_n
       go (states.Called g) ek f = absurd (f ek)
       go (states.Due t) ek f = refl
       go states.Frame ek f = refl
+
+  small : k < 6
+  small = go s ek
+    where
+      go : (s : State) → k ≡ state_kind s → k < 6
+      go states.Blank e = omega arith
+      go states.Ready e = omega arith
+      go (states.Waiting c) e = omega arith
+      go (states.Called g) e = omega arith
+      go (states.Due t) e = omega arith
+      go states.Frame e = omega arith
+
+  -- .. by both at once
+  pub open-is : 4294967296 * n + k ≡ 4294967296 * h + 3 → for_some (eqb h) (handle_of s) ≡ true
+  open-is e =
+      let l = small in
+      let called : k ≡ 3 = omega arith in
+      sym (open-called called) ∙ eq-eqb h n (omega arith)
+
+  pub open-is-not : (4294967296 * n + k ≡ 4294967296 * h + 3 → ⊥) → for_some (eqb h) (handle_of s) ≡ false
+  open-is-not f = go (ℕ_discrete k 3)
+    where
+      go : Dec (k ≡ 3) → for_some (eqb h) (handle_of s) ≡ false
+      go (yes called) = sym (open-called called) ∙ ne_eqb h n (λ e. f (omega arith))
+      go (no other) = sym (open-not-called other)
 
 -- the effect of an answer is the record after it, or the refusal
 pub answered-moves : (m : Machine) (v : ℤ) (q : Place) → is_place q ≡ true → answered m v q ≡ moves (answered_by m v q)

@@ -10,17 +10,15 @@ use Rattle.lines.proofs.shown.Window.show_bytes.Goals as goal
 
 pub loop-byte-init : goal.loop-byte-init
 unfolding showing
-loop-byte-init c = record { same_reference = refl; from = refl; total = omega arith; shown = refl }
+loop-byte-init c = record { total = omega arith; shown = refl }
 
 pub loop-byte-preserved : goal.loop-byte-preserved
 loop-byte-preserved c =
     let now = c.loop-byte.invariant in
     let next = c.show_byte.ensures in
     record {
-      same_reference = search rules;
-      from = search rules;
       total = omega arith;
-      shown = line-more _ _ _ _ _ _ _ c.loop-byte-test.true now.shown (rw (now.from, now.total) at next.output);
+      shown = line-more _ _ _ _ _ _ _ c.loop-byte-test.true now.shown (rw now.total at next);
     }
 
 pub returns : goal.returns
@@ -31,8 +29,8 @@ returns c =
     let within = c.loop-byte.auto.byte-index-end in
     let total = now.total in
     record {
-      same_reference = now.same_reference;
-      from = now.from;
+      same_reference = refl;
+      from = refl;
       shows_bytes = record {
         stored = now.shown ∙ ap (showing c.args.self.now.output.now c.args.self.now.from c.args.self.now.total) whole;
         behind = omega arith;
