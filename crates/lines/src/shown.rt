@@ -61,7 +61,7 @@ impl<'a> Window<'a> {
         requires { self.old.total + length line.now ≤ 1000000000 }
         ensures { ShowsMore self.old self.new line.now }
     {
-        // in locals, so that a byte's store does not wait for the window's own words
+        // in locals, since through the window its words are read and written again for each byte
         let output = &mut *self.output;
         let from = self.from;
         let mut total = self.total;

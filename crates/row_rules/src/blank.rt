@@ -28,13 +28,17 @@ pub fn cell_is_blank(w: &[u32; Machine::WORDS], c: usize) -> bool
     (parent(w, c) == 0) & (value_kind(w, c) == 0)
 }
 
-// All tokens from a place on: their words are tested together.
+// All tokens from a place on: their words are tested together, row by row, without a branch.
 pub fn tokens_are_blank(w: &[u32; Machine::WORDS], from: usize) -> bool
     requires { from ≤ 64 }
     ensures { (result ≡ true → (p : ℕ) → from ≤ p → p < 64 → token_coded w.now p ≡ true)
         × ((m : Machine) → Codes w.now m → result ≡ for_all token_is_blank (drop from m.tokens)) }
 {
-    all_zero(&w[TOKEN_WORDS * from..CELLS_START])
+    let mut blank = true;
+    for p in from..Machine::TOKENS {
+        blank &= token_is_blank(w, p);
+    }
+    blank
 }
 
 // The same for cells.
